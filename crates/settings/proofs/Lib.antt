@@ -1,0 +1,4 @@
+pub mod Exponents
+pub mod First
+pub mod Passed
+pub mod Grid

@@ -1,0 +1,38 @@
+// The settings of a picture's coding trees, their check, and the units that they cut the picture into.
+mod check;
+mod units;
+
+pub use check::refusal;
+pub use units::unit_at;
+pub use units::unit_count;
+
+// Document 01's eight numbers, in the order in which they are checked. `depth` is M, the greatest multi-type depth.
+pub struct Settings {
+    pub ctu: u32,
+    pub mincb: u32,
+    pub minqt: u32,
+    pub depth: u32,
+    pub maxbt: u32,
+    pub maxtt: u32,
+    pub width: u32,
+    pub height: u32,
+}
+
+// A unit's square: its corner and its side.
+pub struct Square {
+    pub x: u32,
+    pub y: u32,
+    pub side: u32,
+}
+
+// The number of units of a picture, or the refusal of its settings, 1 to 9.
+pub enum Count {
+    Units(usize),
+    Invalid(u32),
+}
+
+// A unit's square, or the refusal of its settings and address, 1 to 10.
+pub enum Place {
+    At(Square),
+    Refused(u32),
+}

@@ -1,0 +1,56 @@
+// The units of a picture: their number and their squares. A unit's side is a power of two, so nothing is divided by it.
+use crate::Count;
+use crate::Place;
+use crate::Settings;
+use crate::Square;
+use crate::refusal;
+ghost use mathlib.Core.Path.{_≡_};
+ghost use Prim.Native.Nat.{_≤_, _^_};
+ghost use Rattle.sides.specs.Side.{exponent};
+ghost use Rattle.settings.specs.Units.{unitsOver, countOf, placeOf};
+
+// The units side by side that reach over n samples.
+fn units_over(side: u32, n: u32) -> u32
+    requires { ⌜ (side ≡ 2 ^ exponent side) × (side ≤ 128) × (n ≤ 16384) ⌝ }
+    ensures { λ r. ⌜ r ≡ unitsOver side n ⌝ }
+{
+    (n + (side - 1)) >> sides::exponent(side)
+}
+
+fn wide(x: u32) -> usize
+    ensures { λ r. ⌜ r ≡ x ⌝ }
+{
+    x as usize
+}
+
+// How many units the picture has, or the settings' refusal.
+pub fn unit_count(s: Settings) -> Count
+    ensures { λ r. ⌜ r ≡ countOf s ⌝ }
+{
+    let k = refusal(s);
+    if k != 0 {
+        return Count::Invalid(k);
+    }
+    Count::Units(wide(units_over(s.ctu, s.width) * units_over(s.ctu, s.height)))
+}
+
+// The square of the unit at an address, or the refusal of the settings or of the address.
+pub fn unit_at(s: Settings, address: usize) -> Place
+    ensures { λ r. ⌜ r ≡ placeOf s address ⌝ }
+{
+    let k = refusal(s);
+    if k != 0 {
+        return Place::Refused(k);
+    }
+    let across = units_over(s.ctu, s.width);
+    let count = across * units_over(s.ctu, s.height);
+    if wide(count) <= address {
+        return Place::Refused(10);
+    }
+    let a = address as u32;
+    Place::At(Square {
+        x: a % across * s.ctu,
+        y: a / across * s.ctu,
+        side: s.ctu,
+    })
+}
