@@ -1,0 +1,9 @@
+pub mod Kind
+pub mod Splits
+pub mod Flags
+pub mod Children
+pub mod Rows
+pub mod Run
+pub mod Reading
+pub mod Back
+pub mod Tree
