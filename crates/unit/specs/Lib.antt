@@ -1,0 +1,5 @@
+pub mod Answers
+pub mod Luma
+pub mod Reader
+pub mod Writer
+pub mod Cases
