@@ -8,7 +8,8 @@ ghost use Prim.Native.Nat.{_*_, _/_, _≤_, _<_};
 ghost use lib.ListN.{getD};
 ghost use Rattle.tree.specs.Splits as Splits;
 ghost use Rattle.tree.specs.Children as Children;
-ghost use Rattle.tree.specs.Children.{shareTable, shareAt, partOf};
+ghost use Rattle.tree.specs.Children.{partOf};
+ghost use Rattle.blocks.specs.Table.{shareTable, shareAt};
 
 // The shares of the parts of QT (one way), BH, BV, TH and TV, in quarters of the parent.
 const SHARES: [u8; 15] = [2, 2, 0, 2, 2, 0, 2, 2, 0, 1, 2, 1, 1, 2, 1];

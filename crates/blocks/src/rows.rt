@@ -5,7 +5,8 @@ ghost use Prim.Native.Nat.{_+_, _%_, _<_};
 ghost use lib.ListN.{length};
 ghost use lib.Dec.{leb};
 ghost use Rattle.sides.specs.Side.{exponent};
-ghost use Rattle.tree.specs.Rows.{rowOf, rowWord, putWord};
+ghost use Rattle.tree.specs.Rows.{rowOf};
+ghost use Rattle.blocks.specs.Words.{rowWord, Put};
 
 // The exponent of a side, which a row stores in a byte.
 fn stored_exponent(side: u32) -> u64
@@ -14,7 +15,7 @@ fn stored_exponent(side: u32) -> u64
     sides::exponent(side) as u64
 }
 
-// The row of a node as one number: X and Y of 16 bits, the sides' exponents, QT depth and MTT depth of 8 bits each.
+// The row of a node as one number: X and Y of 16 bits, the sides' exponents and the two depths of 8 bits each.
 pub fn row_word(n: Node) -> u64
     ensures { λ r. ⌜ r ≡ rowWord (rowOf n) ⌝ }
 {
@@ -24,9 +25,10 @@ pub fn row_word(n: Node) -> u64
     corner + exponents * 4294967296 + depths * 281474976710656
 }
 
-// Writes a row at a place of a buffer and answers true; where the buffer has no 8 bytes there, it stays as it is and the answer is false.
+// Writes a row at a place of a buffer and answers true; where the buffer has no 8 bytes there, it stays as it is
+// and the answer is false.
 pub fn put_row(rows: &mut [u8], at: usize, word: u64) -> bool
-    ensures { λ r. ⌜ (r ≡ leb (at + 8) (length (now (rows .entry)))) × (now (rows .exit) ≡ putWord (now (rows .entry)) at word) ⌝ }
+    ensures { λ r. ⌜ Put (now (rows .entry)) at word r (now (rows .exit)) ⌝ }
 {
     if rows.len() < 8 {
         return false;

@@ -1,7 +1,8 @@
-// Runs document 01's cases on the proved functions, and prints P2's table. The expected output, `stdout`, is written from the paper.
+// Runs document 01's cases on the proved functions, and prints P2's table. The expected output, `stdout`, is written
+// from the paper.
 use libc::STDOUT_FILENO;
 use settings::Count;
-use settings::Place;
+use settings::Located;
 use settings::Settings;
 use tree::Choice;
 use tree::Decision;
@@ -18,7 +19,7 @@ fn setting_a(width: u32) -> Settings
         ctu: 64,
         mincb: 4,
         minqt: 8,
-        depth: 3,
+        maxmtt: 3,
         maxbt: 32,
         maxtt: 32,
         width,
@@ -45,7 +46,7 @@ fn say_checks() {
     say_refusal(b"A with width 68: ", setting_a(68));
     let mut quads = setting_a(72);
     quads.minqt = 16;
-    quads.depth = 0;
+    quads.maxmtt = 0;
     say_refusal(b"A with MinQt 16, M 0, width 72: ", quads);
     quads.width = 80;
     say_refusal(b"A with MinQt 16, M 0, width 80: ", quads);
@@ -56,7 +57,7 @@ fn say_units() {
         ctu: 128,
         mincb: 4,
         minqt: 8,
-        depth: 3,
+        maxmtt: 3,
         maxbt: 128,
         maxtt: 64,
         width: 1920,
@@ -64,20 +65,20 @@ fn say_units() {
     };
     match settings::unit_count(camera) {
         Count::Units(n) => say(b"units of a camera's picture: ", n as u64),
-        Count::Invalid(k) => say(b"refused: ", k as u64),
+        Count::Refused(k) => say(b"refused: ", k as u64),
     }
     end_line();
     match settings::unit_at(setting_a(72), 1) {
-        Place::At(q) => {
+        Located::At(q) => {
             say(b"P5's unit starts at: ", q.x as u64);
             say(b" ", q.y as u64);
         }
-        Place::Refused(k) => say(b"refused: ", k as u64),
+        Located::Refused(k) => say(b"refused: ", k as u64),
     }
     end_line();
     match settings::unit_at(setting_a(72), 2) {
-        Place::At(q) => say(b"unit at: ", q.x as u64),
-        Place::Refused(k) => say(b"the unit after it: ", k as u64),
+        Located::At(q) => say(b"unit at: ", q.x as u64),
+        Located::Refused(k) => say(b"the unit after it: ", k as u64),
     }
     end_line();
 }

@@ -1,30 +1,29 @@
-// The decision of a node, read from its flags. A flag is read only where it is present; the open splits are tested by their masks.
+// The decision of a node, read from its flags. A flag is read only where it is present; the open splits are tested
+// by their masks.
+use tree::BH;
+use tree::BV;
 use tree::Choice;
 use tree::Decision;
 use tree::Direction;
 use tree::Flag;
+use tree::QT;
+use tree::TH;
+use tree::TV;
 ghost use mathlib.Core.Path.{_≡_};
-ghost use mathlib.Core.Bool.{Bool, false, _||_};
+ghost use mathlib.Core.Bool.{Bool, _||_};
 ghost use Rattle.tree.specs.Splits as Splits;
 ghost use Rattle.tree.specs.Splits.{rightsIn, binaryMask, ternaryMask};
 ghost use Rattle.tree.specs.Flags as Flags;
 ghost use Rattle.tree.specs.Flags.{flagAt, afterBinary, afterVertical, afterQuad, afterSplit};
-ghost use Rattle.tree.specs.Flags.{splitThere, splitAbsent, quadThere, quadAbsent, verticalThere, verticalAbsent, binaryThere, binaryAbsent};
-
-// Whether some split of a mask is open.
-fn has(splits: u32, mask: u32) -> bool
-    ensures { λ r. ⌜ r ≡ Splits.has splits mask ⌝ }
-{
-    splits & mask != 0
-}
+ghost use Rattle.tree.specs.Flags.{splitFlag, quadFlag, verticalFlag, binaryFlag};
 
 // The masks of the binary and of the ternary split of a direction.
 fn binary_mask(d: Direction) -> u32
     ensures { λ r. ⌜ r ≡ binaryMask d ⌝ }
 {
     match d {
-        Direction::Horizontal => 2,
-        Direction::Vertical => 4,
+        Direction::Horizontal => BH,
+        Direction::Vertical => BV,
     }
 }
 
@@ -32,8 +31,8 @@ fn ternary_mask(d: Direction) -> u32
     ensures { λ r. ⌜ r ≡ ternaryMask d ⌝ }
 {
     match d {
-        Direction::Horizontal => 8,
-        Direction::Vertical => 16,
+        Direction::Horizontal => TH,
+        Direction::Vertical => TV,
     }
 }
 
@@ -41,13 +40,13 @@ fn ternary_mask(d: Direction) -> u32
 fn horizontal(splits: u32) -> bool
     ensures { λ r. ⌜ r ≡ (Splits.has splits 2 || Splits.has splits 8) ⌝ }
 {
-    has(splits, 2) | has(splits, 8)
+    (splits & BH != 0) | (splits & TH != 0)
 }
 
 fn vertical(splits: u32) -> bool
     ensures { λ r. ⌜ r ≡ (Splits.has splits 4 || Splits.has splits 16) ⌝ }
 {
-    has(splits, 4) | has(splits, 16)
+    (splits & BV != 0) | (splits & TV != 0)
 }
 
 // One flag: the byte at a place where it is present, else what is inferred.
@@ -71,17 +70,17 @@ fn read_flag(flags: &[u8], at: usize, there: bool, absent: bool) -> Flag
 }
 
 fn split_flag(flags: &[u8], at: usize, out: bool, splits: u32) -> Flag
-    ensures { λ r. ⌜ r ≡ flagAt (splitThere (rightsIn out splits)) (splitAbsent (rightsIn out splits)) (now (flags .entry)) at ⌝ }
+    ensures { λ r. ⌜ r ≡ splitFlag (rightsIn out splits) (now (flags .entry)) at ⌝ }
 {
-    let open = has(splits, 1) | (horizontal(splits) | vertical(splits));
+    let open = (splits & QT != 0) | (horizontal(splits) | vertical(splits));
     read_flag(flags, at, !out & open, out)
 }
 
 // Where a node lies plays no part in the next three flags: their contracts hold for one in the picture and for one that is out.
 fn quad_flag(flags: &[u8], at: usize, splits: u32) -> Flag
-    ensures { λ r. ⌜ ((out : Bool) → r ≡ flagAt (quadThere (rightsIn out splits)) (quadAbsent (rightsIn out splits)) (now (flags .entry)) at) ⌝ }
+    ensures { λ r. ⌜ ((out : Bool) → r ≡ quadFlag (rightsIn out splits) (now (flags .entry)) at) ⌝ }
 {
-    let quad = has(splits, 1);
+    let quad = splits & QT != 0;
     read_flag(
         flags,
         at,
@@ -91,17 +90,18 @@ fn quad_flag(flags: &[u8], at: usize, splits: u32) -> Flag
 }
 
 fn vertical_flag(flags: &[u8], at: usize, splits: u32) -> Flag
-    ensures { λ r. ⌜ ((out : Bool) → r ≡ flagAt (verticalThere (rightsIn out splits)) (verticalAbsent (rightsIn out splits)) (now (flags .entry)) at) ⌝ }
+    ensures { λ r. ⌜ ((out : Bool) → r ≡ verticalFlag (rightsIn out splits) (now (flags .entry)) at) ⌝ }
 {
     let flat = horizontal(splits);
     read_flag(flags, at, flat & vertical(splits), !flat)
 }
 
 fn binary_flag(flags: &[u8], at: usize, splits: u32, d: Direction) -> Flag
-    ensures { λ r. ⌜ ((out : Bool) → r ≡ flagAt (binaryThere (rightsIn out splits) d) (binaryAbsent (rightsIn out splits) d) (now (flags .entry)) at) ⌝ }
+    ensures { λ r. ⌜ ((out : Bool) → r ≡ binaryFlag (rightsIn out splits) (now (flags .entry)) d at) ⌝ }
 {
-    let binary = has(splits, binary_mask(d));
-    read_flag(flags, at, binary & has(splits, ternary_mask(d)), binary)
+    let binary = splits & binary_mask(d) != 0;
+    let ternary = splits & ternary_mask(d) != 0;
+    read_flag(flags, at, binary & ternary, binary)
 }
 
 // The decision after each flag, from the last flag to the first.

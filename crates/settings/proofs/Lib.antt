@@ -2,3 +2,4 @@ pub mod Exponents
 pub mod First
 pub mod Passed
 pub mod Grid
+pub mod Numbers

@@ -61,9 +61,9 @@ length-kept mincb n h =
       multiple = eqb-true _ 0 (not-false _ (or-none-right (eqb n 0 || ltb 16384 n) _ h));
     }
 
-edge-kept : (s : Settings) → badEdge s ≡ false → s .depth ≡ 0 → (s .width % s .minqt ≡ 0) × (s .height % s .minqt ≡ 0)
+edge-kept : (s : Settings) → badEdge s ≡ false → s .maxmtt ≡ 0 → (s .width % s .minqt ≡ 0) × (s .height % s .minqt ≡ 0)
 edge-kept s h d =
-    let e = not-false _ (rw (eq-eqb (s .depth) 0 d) at h) in
+    let e = not-false _ (rw (eq-eqb (s .maxmtt) 0 d) at h) in
     let w = eqb (s .width % s .minqt) 0 in
     (eqb-true _ 0 (and-left w _ e), eqb-true _ 0 (and-right w _ e))
 
@@ -71,12 +71,12 @@ pub record Passed (s : Settings) : Type 0 where
   pub ctu : (s .ctu ≡ 32) ⊎ ((s .ctu ≡ 64) ⊎ (s .ctu ≡ 128))
   pub cb : Side 4 (min 64 (s .ctu)) (s .mincb)
   pub qt : Side (s .mincb) (min 64 (s .ctu)) (s .minqt)
-  pub depth : s .depth ≤ 2 * (exponent (s .ctu) - exponent (s .mincb))
+  pub depth : s .maxmtt ≤ 2 * (exponent (s .ctu) - exponent (s .mincb))
   pub bt : Side (s .minqt) (s .ctu) (s .maxbt)
   pub tt : Side (s .minqt) (min 64 (s .ctu)) (s .maxtt)
   pub width : Length (s .mincb) (s .width)
   pub height : Length (s .mincb) (s .height)
-  pub edge : s .depth ≡ 0 → (s .width % s .minqt ≡ 0) × (s .height % s .minqt ≡ 0)
+  pub edge : s .maxmtt ≡ 0 → (s .width % s .minqt ≡ 0) × (s .height % s .minqt ≡ 0)
 
 pub passed : (s : Settings) → settingsRefusal s ≡ 0 → Passed s
 unfolding settingsRefusal

@@ -1,8 +1,8 @@
--- The settings that the engine takes: document 01's refusals 1 to 9, in their order. The ranges are those of H.266's sequence parameter set.
+-- The settings that the engine takes: document 01's refusals 1 to 9, in their order. 1 to 6 are the ranges of H.266's sequence parameter set.
 use Prim.Native.Nat.{ℕ, _+_, _-_, _*_, _%_, min, max}
 use mathlib.Core.Bool.{Bool, true, false, not, _&&_, _||_}
 use mathlib.Core.List.{List, [], _∷_, _++_}
-use lib.Dec.{leb, ltb, eqb}
+use lib.Dec.{ltb, eqb}
 use Rattle.sides.specs.Side.{exponent, sideFrom}
 use Rattle.settings.specs.declared.Settings.{Settings}
 
@@ -20,7 +20,7 @@ badQt s = not (sideFrom (s .mincb) (min 64 (s .ctu)) (s .minqt))
 
 -- 4: M is above 2 × (exponent of the CTU side − exponent of MinCb)
 abbrev pub badDepth : Settings → Bool
-badDepth s = ltb (2 * (exponent (s .ctu) - exponent (s .mincb))) (s .depth)
+badDepth s = ltb (2 * (exponent (s .ctu) - exponent (s .mincb))) (s .maxmtt)
 
 -- 5: MaxBt is not a power of two from MinQt to the CTU side
 abbrev pub badBt : Settings → Bool
@@ -34,9 +34,9 @@ badTt s = not (sideFrom (s .minqt) (min 64 (s .ctu)) (s .maxtt))
 abbrev pub badLength : ℕ → ℕ → Bool
 badLength mincb n = eqb n 0 || ltb 16384 n || not (eqb (n % max 8 mincb) 0)
 
--- 9: M is 0, and the width or the height is no multiple of MinQt
+-- 9: M is 0, and the width or the height is no multiple of MinQt (this house's rule: an edge node would have no open split)
 abbrev pub badEdge : Settings → Bool
-badEdge s = eqb (s .depth) 0 && not (eqb (s .width % s .minqt) 0 && eqb (s .height % s .minqt) 0)
+badEdge s = eqb (s .maxmtt) 0 && not (eqb (s .width % s .minqt) 0 && eqb (s .height % s .minqt) 0)
 
 -- the rules in their order, true where a rule is broken: 1 to 3 on the smallest sides, 4 to 6 on the cuts, 7 to 9 on the picture
 abbrev pub sideRules : Settings → List Bool

@@ -4,13 +4,8 @@ ghost use mathlib.Core.Path.{_≡_};
 ghost use Prim.Native.Nat.{_%_, _^_, min, max};
 ghost use lib.Dec.{eqb};
 ghost use Rattle.sides.specs.Side.{exponent};
-ghost use Rattle.settings.specs.Checks.{settingsRefusal, sideRules, limitRules, pictureRules, firstHit, badLength};
-
-fn least(a: u32, b: u32) -> u32
-    ensures { λ r. ⌜ r ≡ min a b ⌝ }
-{
-    if a < b { a } else { b }
-}
+ghost use Rattle.settings.specs.Checks.{settingsRefusal, firstHit};
+ghost use Rattle.settings.specs.Checks.{sideRules, limitRules, pictureRules, badLength};
 
 fn most(a: u32, b: u32) -> u32
     ensures { λ r. ⌜ r ≡ max a b ⌝ }
@@ -23,13 +18,13 @@ fn limit_refusal(s: Settings) -> u32
     requires { ⌜ firstHit 1 (sideRules s) ≡ 0 ⌝ }
     ensures { λ r. ⌜ r ≡ firstHit 4 (limitRules s) ⌝ }
 {
-    if 2 * (sides::exponent(s.ctu) - sides::exponent(s.mincb)) < s.depth {
+    if 2 * (sides::exponent(s.ctu) - sides::exponent(s.mincb)) < s.maxmtt {
         return 4;
     }
     if !sides::side_from(s.minqt, s.ctu, s.maxbt) {
         return 5;
     }
-    if !sides::side_from(s.minqt, least(64, s.ctu), s.maxtt) {
+    if !sides::side_from(s.minqt, sides::least(64, s.ctu), s.maxtt) {
         return 6;
     }
     0
@@ -42,7 +37,7 @@ fn side_refusal(s: Settings) -> u32
     if !((s.ctu == 32) | (s.ctu == 64) | (s.ctu == 128)) {
         return 1;
     }
-    let small = least(64, s.ctu);
+    let small = sides::least(64, s.ctu);
     if !sides::side_from(4, small, s.mincb) {
         return 2;
     }
@@ -78,7 +73,7 @@ fn picture_refusal(s: Settings) -> u32
     if bad_length(s.mincb, s.height) {
         return 8;
     }
-    if (s.depth == 0) & !(multiple(s.width, s.minqt) & multiple(s.height, s.minqt)) {
+    if (s.maxmtt == 0) & !(multiple(s.width, s.minqt) & multiple(s.height, s.minqt)) {
         return 9;
     }
     0

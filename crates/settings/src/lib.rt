@@ -6,12 +6,12 @@ pub use check::refusal;
 pub use units::unit_at;
 pub use units::unit_count;
 
-// Document 01's eight numbers, in the order in which they are checked. `depth` is M, the greatest multi-type depth.
+// Document 01's eight numbers, in the order in which they are checked. `maxmtt` is M, the greatest multi-type depth.
 pub struct Settings {
     pub ctu: u32,
     pub mincb: u32,
     pub minqt: u32,
-    pub depth: u32,
+    pub maxmtt: u32,
     pub maxbt: u32,
     pub maxtt: u32,
     pub width: u32,
@@ -28,11 +28,11 @@ pub struct Square {
 // The number of units of a picture, or the refusal of its settings, 1 to 9.
 pub enum Count {
     Units(usize),
-    Invalid(u32),
+    Refused(u32),
 }
 
 // A unit's square, or the refusal of its settings and address, 1 to 10.
-pub enum Place {
+pub enum Located {
     At(Square),
     Refused(u32),
 }

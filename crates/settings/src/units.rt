@@ -1,13 +1,13 @@
 // The units of a picture: their number and their squares. A unit's side is a power of two, so nothing is divided by it.
 use crate::Count;
-use crate::Place;
+use crate::Located;
 use crate::Settings;
 use crate::Square;
 use crate::refusal;
 ghost use mathlib.Core.Path.{_≡_};
 ghost use Prim.Native.Nat.{_≤_, _^_};
 ghost use Rattle.sides.specs.Side.{exponent};
-ghost use Rattle.settings.specs.Units.{unitsOver, countOf, placeOf};
+ghost use Rattle.settings.specs.Units.{unitsOver, countOf, located};
 
 // The units side by side that reach over n samples.
 fn units_over(side: u32, n: u32) -> u32
@@ -29,26 +29,26 @@ pub fn unit_count(s: Settings) -> Count
 {
     let k = refusal(s);
     if k != 0 {
-        return Count::Invalid(k);
+        return Count::Refused(k);
     }
     Count::Units(wide(units_over(s.ctu, s.width) * units_over(s.ctu, s.height)))
 }
 
 // The square of the unit at an address, or the refusal of the settings or of the address.
-pub fn unit_at(s: Settings, address: usize) -> Place
-    ensures { λ r. ⌜ r ≡ placeOf s address ⌝ }
+pub fn unit_at(s: Settings, address: usize) -> Located
+    ensures { λ r. ⌜ r ≡ located s address ⌝ }
 {
     let k = refusal(s);
     if k != 0 {
-        return Place::Refused(k);
+        return Located::Refused(k);
     }
     let across = units_over(s.ctu, s.width);
     let count = across * units_over(s.ctu, s.height);
     if wide(count) <= address {
-        return Place::Refused(10);
+        return Located::Refused(10);
     }
     let a = address as u32;
-    Place::At(Square {
+    Located::At(Square {
         x: a % across * s.ctu,
         y: a / across * s.ctu,
         side: s.ctu,

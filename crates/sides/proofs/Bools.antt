@@ -1,7 +1,6 @@
 -- Laws of Boolean tests that every layer cites.
 use mathlib.Core.Path.{_≡_, refl, sym, _∙_}
-use mathlib.Core.Bool.{Bool, true, false, not, _&&_, _||_, cond, true≢false}
-use Prim.Native.Nat.{ℕ}
+use mathlib.Core.Bool.{Bool, true, false, not, _&&_, _||_, true≢false}
 
 -- true is not false, so anything follows
 pub clash : {A : Type 0} {a : Bool} → a ≡ true → a ≡ false → A

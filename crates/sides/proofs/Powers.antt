@@ -1,7 +1,7 @@
 -- A number with one digit set is the power of two that its exponent says.
-use Prim.Native.Nat.{ℕ, zero, suc, _+_, _-_, _*_, _/_, _%_, _^_, _≤_, _<_}
-use mathlib.Core.Path.{_≡_, refl, sym, ap, _∙_}
-use mathlib.Core.Bool.{Bool, true, false, _&&_}
+use Prim.Native.Nat.{ℕ, zero, suc, _+_, _-_, _/_, _%_, _^_, _≤_, _<_}
+use mathlib.Core.Path.{_≡_, refl}
+use mathlib.Core.Bool.{true, _&&_}
 use lib.Dec.{leb, eqb}
 use lib.Count.{trailingZeros, ones, onesIn, under, ones-step}
 use lib.Bits.{bitAnd, and-mask}

@@ -1,17 +1,22 @@
-// The open splits of a node as one number: H.266 clauses 6.4.1 to 6.4.3. The binary and the ternary rule stand once, the direction a parameter.
-// Every number may have any value: sums are taken in 64 bits.
+// The open splits of a node as one number: H.266 clauses 6.4.1 to 6.4.3. The binary and the ternary rule stand once,
+// the direction a parameter. Every number may have any value: sums are taken in 64 bits.
+use tree::BH;
+use tree::BV;
 use tree::Decision;
 use tree::Direction;
 use tree::Limits;
 use tree::Node;
+use tree::QT;
+use tree::TH;
+use tree::TV;
 ghost use mathlib.Core.Path.{_≡_};
 ghost use Prim.Native.Nat.{_+_, _≤_, min};
 ghost use lib.Dec.{ltb};
 ghost use Rattle.tree.specs.Kind.{luma};
 ghost use Rattle.tree.specs.Splits as Splits;
-ghost use Rattle.tree.specs.Splits.{rightOut, bottomOut, isOut, parentTernary, quadOpen, binaryNeeds, binaryClosed, binaryOpen};
-ghost use Rattle.tree.specs.Splits.{ternaryNeeds, ternaryOpen, rightsOf, openSplits, outAlong, closedAcross, closedLarge, closedCorner};
-ghost use Rattle.tree.specs.Splits.{closedMiddle, closedNarrow};
+ghost use Rattle.tree.specs.Splits.{rightOut, bottomOut, isOut, sameDirection, parentTernary, quadOpen};
+ghost use Rattle.tree.specs.Splits.{binaryNeeds, binaryClosed, binaryOpen};
+ghost use Rattle.tree.specs.Splits.{closedMiddle, ternaryOpen, rightsOf, openSplits};
 ghost use Rattle.tree.specs.Children as Children;
 
 // One of two numbers, and one of two tests, by direction.
@@ -67,15 +72,24 @@ fn quad_open(l: Limits, n: Node) -> bool
 
 // Whether the depth bound leaves room for a cut: D < M + F.
 fn deep_enough(l: Limits, n: Node) -> bool
-    ensures { λ r. ⌜ r ≡ ltb (n .mtt) (l .depth + n .offset) ⌝ }
+    ensures { λ r. ⌜ r ≡ ltb (n .mtt) (l .maxmtt + n .offset) ⌝ }
 {
-    (n.mtt as u64) < (l.depth as u64) + (n.offset as u64)
+    (n.mtt as u64) < (l.maxmtt as u64) + (n.offset as u64)
 }
 
 fn binary_needs(l: Limits, n: Node, d: Direction) -> bool
     ensures { λ r. ⌜ r ≡ binaryNeeds l n d ⌝ }
 {
     (l.mincb < pick(d, n.h, n.w)) & (n.w <= l.maxbt) & (n.h <= l.maxbt) & deep_enough(l, n)
+}
+
+fn same_direction(d: Direction, e: Direction) -> bool
+    ensures { λ r. ⌜ r ≡ sameDirection d e ⌝ }
+{
+    match d {
+        Direction::Horizontal => either(e, true, false),
+        Direction::Vertical => either(e, false, true),
+    }
 }
 
 fn parent_ternary(d: Direction, parent: Decision) -> bool
@@ -85,7 +99,7 @@ fn parent_ternary(d: Direction, parent: Decision) -> bool
         Decision::Leaf => false,
         Decision::Quad => false,
         Decision::Binary(_) => false,
-        Decision::Ternary(e) => either(d, either(e, true, false), either(e, false, true)),
+        Decision::Ternary(e) => same_direction(d, e),
     }
 }
 
@@ -116,16 +130,10 @@ fn binary_open(l: Limits, n: Node, d: Direction) -> bool
     binary_needs(l, n, d) & !binary_closed(l, n, d)
 }
 
-fn least(a: u32, b: u32) -> u32
-    ensures { λ r. ⌜ r ≡ min a b ⌝ }
-{
-    if a < b { a } else { b }
-}
-
 fn ternary_open(l: Limits, n: Node, d: Direction) -> bool
     ensures { λ r. ⌜ r ≡ ternaryOpen l n d ⌝ }
 {
-    let side = least(64, l.maxtt);
+    let side = sides::least(64, l.maxtt);
     (2 * (l.mincb as u64) < (pick(d, n.h, n.w) as u64))
         & (n.w <= side)
         & (n.h <= side)
@@ -144,9 +152,9 @@ fn bit(b: bool, mask: u32) -> u32
 pub fn open_splits(l: Limits, n: Node) -> u32
     ensures { λ r. ⌜ r ≡ openSplits (rightsOf (luma l) n) ⌝ }
 {
-    bit(quad_open(l, n), 1)
-        + bit(binary_open(l, n, Direction::Horizontal), 2)
-        + bit(binary_open(l, n, Direction::Vertical), 4)
-        + bit(ternary_open(l, n, Direction::Horizontal), 8)
-        + bit(ternary_open(l, n, Direction::Vertical), 16)
+    bit(quad_open(l, n), QT)
+        + bit(binary_open(l, n, Direction::Horizontal), BH)
+        + bit(binary_open(l, n, Direction::Vertical), BV)
+        + bit(ternary_open(l, n, Direction::Horizontal), TH)
+        + bit(ternary_open(l, n, Direction::Vertical), TV)
 }

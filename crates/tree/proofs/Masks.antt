@@ -1,7 +1,7 @@
 -- The open splits as one number say the rights that they were made of: one test over all 32 sets of open splits.
 use Prim.Native.Nat.{ℕ, _+_}
 use mathlib.Core.Path.{_≡_, refl, fun-ext}
-use mathlib.Core.Bool.{Bool, true, false, not, _&&_}
+use mathlib.Core.Bool.{Bool, true, not, _&&_}
 use Rattle.sides.proofs.Bools.{and-left, and-right, not-not, same, same-eq, forFive, at-five}
 use Rattle.tree.specs.declared.Direction.{Direction}
 use Rattle.tree.specs.declared.Direction.the-variants.{Horizontal, Vertical}

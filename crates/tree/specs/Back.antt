@@ -1,7 +1,7 @@
 -- The way back of a node: the flags that give rows. No search: at each node the decision follows from the rows ahead.
 use Prim.Native.Nat.{ℕ, zero, suc, _+_, _*_, _/_, _^_, min}
 use mathlib.Core.Bool.{Bool, true, false, cond, _&&_}
-use mathlib.Core.List.{List, [], _∷_, _++_}
+use mathlib.Core.List.{List, [], _∷_}
 use lib.Dec.{ltb, eqb}
 use Rattle.tree.specs.declared.Limits.{Limits}
 use Rattle.tree.specs.declared.Node.{Node}
@@ -10,7 +10,7 @@ use Rattle.tree.specs.declared.Direction.the-variants.{Horizontal, Verti
 use Rattle.tree.specs.declared.Decision.{Decision}
 use Rattle.tree.specs.declared.Decision.the-variants.{Leaf, Quad, Binary, Ternary}
 use Rattle.tree.specs.Kind.{Kind}
-use Rattle.tree.specs.Splits.{pick, rightOut, bottomOut, rightsOf, may}
+use Rattle.tree.specs.Splits.{pick, rightOut, bottomOut, rightsOf, allows}
 use Rattle.tree.specs.Flags.{flagsFor}
 use Rattle.tree.specs.Children.{children}
 use Rattle.tree.specs.Rows.{Row, rowOf}
@@ -63,15 +63,19 @@ sameRow a b =
 abbrev pub noFlags : Run ℕ (List Row)
 noFlags = refuse 16 0
 
--- a decision that the node allows: its flags, then those of the children; a leaf takes its own row
+-- a split that the node allows: its flags, then those of its children
+abbrev pub backSplit : Kind → Node → (Node → List Row → Run ℕ (List Row)) → List Row → Decision → Run ℕ (List Row)
+backSplit k n go rows d = before (flagsFor (rightsOf k n) d) (overAll (k .limits) go (children (k .limits) n d) rows)
+
+-- a decision that the node allows; a leaf takes its own row
 unfoldable pub backInto : Kind → Node → (Node → List Row → Run ℕ (List Row)) → Row → List Row → Decision → Run ℕ (List Row)
 backInto k n go r rows Leaf = cond (sameRow r (rowOf n)) (record { given = flagsFor (rightsOf k n) Leaf; end = goes rows }) noFlags
-backInto k n go r rows Quad = before (flagsFor (rightsOf k n) Quad) (overAll k go (children k n Quad) (r ∷ rows))
-backInto k n go r rows (Binary d) = before (flagsFor (rightsOf k n) (Binary d)) (overAll k go (children k n (Binary d)) (r ∷ rows))
-backInto k n go r rows (Ternary d) = before (flagsFor (rightsOf k n) (Ternary d)) (overAll k go (children k n (Ternary d)) (r ∷ rows))
+backInto k n go r rows Quad = backSplit k n go (r ∷ rows) Quad
+backInto k n go r rows (Binary d) = backSplit k n go (r ∷ rows) (Binary d)
+backInto k n go r rows (Ternary d) = backSplit k n go (r ∷ rows) (Ternary d)
 
 unfoldable pub backWith : Kind → Node → (Node → List Row → Run ℕ (List Row)) → Row → List Row → Decision → Run ℕ (List Row)
-backWith k n go r rows d = elim (may (rightsOf k n) d) [ true ↦ backInto k n go r rows d | false ↦ noFlags ]
+backWith k n go r rows d = elim (allows (rightsOf k n) d) [ true ↦ backInto k n go r rows d | false ↦ noFlags ]
 
 -- the flags of a node, and the rows that are left; the first argument as in `walk`
 unfoldable pub back : ℕ → Kind → Node → List Row → Run ℕ (List Row)

@@ -3,7 +3,6 @@ use Prim.Native.Nat.{ℕ, _+_, _*_, _/_}
 use mathlib.Core.Bool.{Bool, _&&_}
 use mathlib.Core.List.{List, [], _∷_}
 use lib.Dec.{ltb}
-use lib.ListN.{getD}
 use Rattle.tree.specs.declared.Limits.{Limits}
 use Rattle.tree.specs.declared.Node.{Node}
 use Rattle.tree.specs.declared.Share.{Share}
@@ -11,7 +10,6 @@ use Rattle.tree.specs.declared.Part.{Part}
 use Rattle.tree.specs.declared.Direction.{Direction}
 use Rattle.tree.specs.declared.Decision.{Decision}
 use Rattle.tree.specs.declared.Decision.the-variants.{Leaf, Quad, Binary, Ternary}
-use Rattle.tree.specs.Kind.{Kind}
 use Rattle.tree.specs.Splits.{pick, bit, outAlong}
 
 -- A share is where a part starts and how long it is, in quarters of the parent, across and down, and the part's number.
@@ -52,12 +50,16 @@ childOffset l Quad n = 0
 childOffset l (Binary d) n = n .offset + lift l n d
 childOffset l (Ternary d) n = n .offset
 
+-- a part's place in a parent of sides w and h: where it starts, and its sides
+abbrev pub partOf : ℕ → ℕ → Share → Part
+partOf w h p = record { left = w / 4 * p .left; top = h / 4 * p .top; wide = w / 4 * p .wide; high = h / 4 * p .high }
+
 unfoldable pub child : Limits → Node → Decision → Share → Node
 child l n d p = record {
-  x = n .x + n .w / 4 * p .left;
-  y = n .y + n .h / 4 * p .top;
-  w = n .w / 4 * p .wide;
-  h = n .h / 4 * p .high;
+  x = n .x + partOf (n .w) (n .h) p .left;
+  y = n .y + partOf (n .w) (n .h) p .top;
+  w = partOf (n .w) (n .h) p .wide;
+  h = partOf (n .w) (n .h) p .high;
   qt = childQt d n;
   mtt = childMtt d n;
   offset = childOffset l d n;
@@ -65,28 +67,15 @@ child l n d p = record {
   parent = d;
 }
 
+-- a child for each share
 unfoldable pub childrenFrom : Limits → Node → Decision → List Share → List Node
 childrenFrom l n d [] = []
 childrenFrom l n d (p ∷ ps) = child l n d p ∷ childrenFrom l n d ps
 
 -- all children of a node, in coding order, those outside the picture too
-unfoldable pub children : Kind → Node → Decision → List Node
-children k n d = childrenFrom (k .limits) n d (shares d)
+unfoldable pub children : Limits → Node → Decision → List Node
+children l n d = childrenFrom l n d (shares d)
 
--- "A child whose corner is outside the picture is skipped": the node's corner lies in the picture
-unfoldable pub starts : Kind → Node → Bool
-starts k n = ltb (n .x) (k .limits .width) && ltb (n .y) (k .limits .height)
-
--- ---- what the functions give
-
--- the shares as the constant table of the code holds them: three entries each for QT (one way), BH, BV, TH and TV
-unfoldable pub shareTable : List ℕ
-shareTable = 2 ∷ 2 ∷ 0 ∷ 2 ∷ 2 ∷ 0 ∷ 2 ∷ 2 ∷ 0 ∷ 1 ∷ 2 ∷ 1 ∷ 1 ∷ 2 ∷ 1 ∷ []
-
--- the share of the part with a number; an empty one where the split has no such part
-unfoldable pub shareAt : Decision → ℕ → Share
-shareAt d i = getD (shares d) i (share 0 0 0 0 0)
-
--- a part's place in a parent of sides w and h: where it starts, and its sides
-unfoldable pub partOf : ℕ → ℕ → Share → Part
-partOf w h p = record { left = w / 4 * p .left; top = h / 4 * p .top; wide = w / 4 * p .wide; high = h / 4 * p .high }
+-- "A child whose corner is outside the picture is skipped"
+unfoldable pub cornerInside : Limits → Node → Bool
+cornerInside l n = ltb (n .x) (l .width) && ltb (n .y) (l .height)

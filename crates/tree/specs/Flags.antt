@@ -17,15 +17,15 @@ use Rattle.tree.specs.Splits.{pick, bit, Rights}
 
 -- ---- presence
 
--- a split of direction d is open; a split other than QT is
-abbrev pub either : Rights → Direction → Bool
-either r d = r .binary d || r .ternary d
+-- a cut of direction d is open; some cut is; some split is
+abbrev pub cutOpen : Rights → Direction → Bool
+cutOpen r d = r .binary d || r .ternary d
 
-abbrev pub other : Rights → Bool
-other r = either r Horizontal || either r Vertical
+abbrev pub someCut : Rights → Bool
+someCut r = cutOpen r Horizontal || cutOpen r Vertical
 
 abbrev pub someOpen : Rights → Bool
-someOpen r = r .quad || other r
+someOpen r = r .quad || someCut r
 
 -- split: present when the node is inside the picture and some split is open; absent: 1 if out, else 0
 abbrev pub splitThere : Rights → Bool
@@ -36,17 +36,17 @@ splitAbsent r = not (r .within)
 
 -- quad: present when QT is open and another split is; absent: 1 if QT is open, else 0
 abbrev pub quadThere : Rights → Bool
-quadThere r = r .quad && other r
+quadThere r = r .quad && someCut r
 
 abbrev pub quadAbsent : Rights → Bool
 quadAbsent r = r .quad
 
 -- vertical: present when splits of both directions are open; absent: 0 if a horizontal one is open, else 1
 abbrev pub verticalThere : Rights → Bool
-verticalThere r = either r Horizontal && either r Vertical
+verticalThere r = cutOpen r Horizontal && cutOpen r Vertical
 
 abbrev pub verticalAbsent : Rights → Bool
-verticalAbsent r = not (either r Horizontal)
+verticalAbsent r = not (cutOpen r Horizontal)
 
 -- binary: present when both splits of the direction are open; absent: 1 if the binary one is open, else 0
 abbrev pub binaryThere : Rights → Direction → Bool
@@ -67,6 +67,18 @@ flagAt there absent flags at =
     (Bad 11 (length flags)))
     (Value absent at)
 
+abbrev pub splitFlag : Rights → List ℕ → ℕ → Flag
+splitFlag r flags at = flagAt (splitThere r) (splitAbsent r) flags at
+
+abbrev pub quadFlag : Rights → List ℕ → ℕ → Flag
+quadFlag r flags at = flagAt (quadThere r) (quadAbsent r) flags at
+
+abbrev pub verticalFlag : Rights → List ℕ → ℕ → Flag
+verticalFlag r flags at = flagAt (verticalThere r) (verticalAbsent r) flags at
+
+abbrev pub binaryFlag : Rights → List ℕ → Direction → ℕ → Flag
+binaryFlag r flags d at = flagAt (binaryThere r d) (binaryAbsent r d) flags at
+
 -- after the binary flag, the vertical one, the quad one, the split one
 unfoldable pub afterBinary : Direction → Flag → Choice
 afterBinary d (Bad k p) = Refused k p
@@ -74,7 +86,7 @@ afterBinary d (Value true at) = Chosen (Binary d) at
 afterBinary d (Value false at) = Chosen (Ternary d) at
 
 abbrev pub cutAt : Rights → List ℕ → Direction → ℕ → Choice
-cutAt r flags d at = afterBinary d (flagAt (binaryThere r d) (binaryAbsent r d) flags at)
+cutAt r flags d at = afterBinary d (binaryFlag r flags d at)
 
 unfoldable pub afterVertical : Rights → List ℕ → Flag → Choice
 afterVertical r flags (Bad k p) = Refused k p
@@ -84,15 +96,24 @@ afterVertical r flags (Value false at) = cutAt r flags Horizontal at
 unfoldable pub afterQuad : Rights → List ℕ → Flag → Choice
 afterQuad r flags (Bad k p) = Refused k p
 afterQuad r flags (Value true at) = Chosen Quad at
-afterQuad r flags (Value false at) = afterVertical r flags (flagAt (verticalThere r) (verticalAbsent r) flags at)
+afterQuad r flags (Value false at) = afterVertical r flags (verticalFlag r flags at)
 
 unfoldable pub afterSplit : Rights → List ℕ → Flag → Choice
 afterSplit r flags (Bad k p) = Refused k p
-afterSplit r flags (Value true at) = afterQuad r flags (flagAt (quadThere r) (quadAbsent r) flags at)
+afterSplit r flags (Value true at) = afterQuad r flags (quadFlag r flags at)
 afterSplit r flags (Value false at) = Chosen Leaf at
 
 unfoldable pub decide : Rights → List ℕ → ℕ → Choice
-decide r flags at = afterSplit r flags (flagAt (splitThere r) (splitAbsent r) flags at)
+decide r flags at = afterSplit r flags (splitFlag r flags at)
+
+-- document 01's number of what `decide` gives, that of a refusal or 0, and its value, the refusal's place or the next place of the flags
+abbrev pub choiceNumber : Choice → ℕ
+choiceNumber (Chosen d at) = 0
+choiceNumber (Refused number place) = number
+
+abbrev pub choiceValue : Choice → ℕ
+choiceValue (Chosen d at) = at
+choiceValue (Refused number place) = place
 
 -- ---- writing: the flags that say a decision
 

@@ -1,8 +1,7 @@
 -- The reading of a node: the rows that flags give.
 use Prim.Native.Nat.{ℕ, zero, suc, _+_, _-_}
-use mathlib.Core.List.{List, []}
+use mathlib.Core.List.{List}
 use Rattle.tree.specs.declared.Node.{Node}
-use Rattle.tree.specs.declared.Decision.{Decision}
 use Rattle.tree.specs.declared.Choice.{Choice}
 use Rattle.tree.specs.declared.Choice.the-variants.{Chosen, Refused}
 use Rattle.tree.specs.Kind.{Kind}
@@ -19,7 +18,7 @@ levelsLeft n = 256 - (n .qt + n .mtt)
 -- a node of which the decision is read: a leaf's row, or the children's rows
 unfoldable pub enter : Kind → Node → (Node → ℕ → Run Row ℕ) → Choice → Run Row ℕ
 enter k n go (Refused number place) = refuse number place
-enter k n go (Chosen d at) = before (ownRows n d) (overAll k go (children k n d) at)
+enter k n go (Chosen d at) = before (ownRows n d) (overAll (k .limits) go (children (k .limits) n d) at)
 
 -- "a node hands its area to its children, and each child is again a node": the rows of a node from a place of the flags, and the next place.
 -- The first argument is the levels that are left; a coding tree never uses them up.

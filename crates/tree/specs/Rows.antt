@@ -1,10 +1,7 @@
 -- Rows: what a leaf is in the table, and its 8 bytes.
 use Prim.Native.Nat.{ℕ, zero, suc, _+_, _*_, _/_, _%_}
 use mathlib.Core.List.{List, [], _∷_, _++_}
-use mathlib.Core.Bool.{Bool, true, false, cond}
-use lib.Dec.{leb}
-use lib.ListN.{length, getD}
-use lib.Seq.{sets}
+use lib.ListN.{getD}
 use Rattle.sides.specs.Side.{exponent}
 use Rattle.tree.specs.declared.Node.{Node}
 use Rattle.tree.specs.declared.Decision.{Decision}
@@ -54,22 +51,3 @@ rowAt bytes at = record {
 unfoldable pub rowsAt : ℕ → List ℕ → ℕ → List Row
 rowsAt zero bytes at = []
 rowsAt (suc count) bytes at = rowAt bytes at ∷ rowsAt count bytes (at + 8)
-
--- ---- a row as one number of 64 bits, its first byte the lowest
-
-unfoldable pub wordOf : List ℕ → ℕ
-wordOf [] = 0
-wordOf (b ∷ bs) = b + 256 * wordOf bs
-
-abbrev pub rowWord : Row → ℕ
-rowWord r = wordOf (rowBytes r)
-
--- the 8 bytes of such a number
-unfoldable pub wordBytes : ℕ → List ℕ
-wordBytes n =
-    n % 256 ∷ n / 256 % 256 ∷ n / 65536 % 256 ∷ n / 16777216 % 256
-    ∷ n / 4294967296 % 256 ∷ n / 1099511627776 % 256 ∷ n / 281474976710656 % 256 ∷ n / 72057594037927936 % 256 ∷ []
-
--- a buffer after its 8 bytes from a place on are set; unchanged where it has not so many
-unfoldable pub putWord : List ℕ → ℕ → ℕ → List ℕ
-putWord buffer at n = cond (leb (at + 8) (length buffer)) (sets buffer at (wordBytes n)) buffer

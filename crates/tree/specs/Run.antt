@@ -1,10 +1,10 @@
 -- A run over nodes, one after the other: the reading of flags and the way back are two of them.
 use Prim.Native.Nat.{ℕ}
-use mathlib.Core.Bool.{Bool, true, false}
+use mathlib.Core.Bool.{true, false}
 use mathlib.Core.List.{List, [], _∷_, _++_}
 use Rattle.tree.specs.declared.Node.{Node}
-use Rattle.tree.specs.Kind.{Kind}
-use Rattle.tree.specs.Children.{starts}
+use Rattle.tree.specs.declared.Limits.{Limits}
+use Rattle.tree.specs.Children.{cornerInside}
 
 -- how a run ends: it goes on from a state, or stops with a refusal's number and place
 pub data End (S : Type 0) : Type 0 where
@@ -33,6 +33,6 @@ module _ {A S : Type 0} where
   andThen r next = goOn (r .given) (r .end) next
 
   -- one node after the other; a node whose corner is outside the picture is skipped
-  unfoldable pub overAll : Kind → (Node → S → Run A S) → List Node → S → Run A S
-  overAll k go [] s = record { given = []; end = goes s }
-  overAll k go (n ∷ ns) s = elim (starts k n) [ true ↦ andThen (go n s) (λ t. overAll k go ns t) | false ↦ overAll k go ns s ]
+  unfoldable pub overAll : Limits → (Node → S → Run A S) → List Node → S → Run A S
+  overAll l go [] s = record { given = []; end = goes s }
+  overAll l go (n ∷ ns) s = elim (cornerInside l n) [ true ↦ andThen (go n s) (λ t. overAll l go ns t) | false ↦ overAll l go ns s ]

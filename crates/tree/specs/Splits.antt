@@ -44,12 +44,16 @@ outAlong d l n = pick d (bottomOut l n) (rightOut l n)
 abbrev pub outAcross : Direction → Limits → Node → Bool
 outAcross d l n = pick d (rightOut l n) (bottomOut l n)
 
+abbrev pub sameDirection : Direction → Direction → Bool
+sameDirection Horizontal e = pick e true false
+sameDirection Vertical e = pick e false true
+
 -- the parent was split by the ternary split of direction d
 abbrev pub parentTernary : Direction → Decision → Bool
 parentTernary d Leaf = false
 parentTernary d Quad = false
 parentTernary d (Binary e) = false
-parentTernary d (Ternary e) = pick d (pick e true false) (pick e false true)
+parentTernary d (Ternary e) = sameDirection d e
 
 -- ---- quad, 6.4.1
 
@@ -60,13 +64,13 @@ quadOpen l n = eqb (n .mtt) 0 && ltb (l .minqt) (n .w)
 
 -- what a binary split needs, D < M + F among it
 abbrev pub binaryNeeds : Limits → Node → Direction → Bool
-binaryNeeds l n d = ltb (l .mincb) (along d n) && leb (n .w) (l .maxbt) && leb (n .h) (l .maxbt) && ltb (n .mtt) (l .depth + n .offset)
+binaryNeeds l n d = ltb (l .mincb) (along d n) && leb (n .w) (l .maxbt) && leb (n .h) (l .maxbt) && ltb (n .mtt) (l .maxmtt + n .offset)
 
 -- "BV and bottom out; BH and right out but not bottom out": the one rule in which the directions differ
 abbrev pub closedAcross : Limits → Node → Direction → Bool
 closedAcross l n d = outAcross d l n && pick d (not (bottomOut l n)) true
 
--- "BV, H > 64 and right out; BH, W > 64 and bottom out"
+-- the first rule of 64-sample pipeline units: "BV, H > 64 and right out; BH, W > 64 and bottom out"
 abbrev pub closedLarge : Limits → Node → Direction → Bool
 closedLarge l n d = ltb 64 (across d n) && outAlong d l n
 
@@ -78,7 +82,7 @@ closedCorner l n = rightOut l n && bottomOut l n && ltb (l .minqt) (n .w)
 abbrev pub closedMiddle : Node → Direction → Bool
 closedMiddle n d = ltb 0 (n .mtt) && eqb (n .part) 1 && parentTernary d (n .parent)
 
--- "BV with W ≤ 64 and H > 64; BH with W > 64 and H ≤ 64"
+-- the second: "BV with W ≤ 64 and H > 64; BH with W > 64 and H ≤ 64"
 abbrev pub closedNarrow : Node → Direction → Bool
 closedNarrow n d = leb (along d n) 64 && ltb 64 (across d n)
 
@@ -92,7 +96,7 @@ binaryOpen l n d = binaryNeeds l n d && not (binaryClosed l n d)
 
 abbrev pub ternaryNeeds : Limits → Node → Direction → Bool
 ternaryNeeds l n d =
-    ltb (2 * l .mincb) (along d n) && leb (n .w) (min 64 (l .maxtt)) && leb (n .h) (min 64 (l .maxtt)) && ltb (n .mtt) (l .depth + n .offset)
+    ltb (2 * l .mincb) (along d n) && leb (n .w) (min 64 (l .maxtt)) && leb (n .h) (min 64 (l .maxtt)) && ltb (n .mtt) (l .maxmtt + n .offset)
 
 unfoldable pub ternaryOpen : Limits → Node → Direction → Bool
 ternaryOpen l n d = ternaryNeeds l n d && inside l n
@@ -114,11 +118,11 @@ rightsOf k n = record {
 }
 
 -- the decisions that rights allow: a leaf inside the picture, and the open splits
-abbrev pub may : Rights → Decision → Bool
-may r Leaf = r .within
-may r Quad = r .quad
-may r (Binary d) = r .binary d
-may r (Ternary d) = r .ternary d
+abbrev pub allows : Rights → Decision → Bool
+allows r Leaf = r .within
+allows r Quad = r .quad
+allows r (Binary d) = r .binary d
+allows r (Ternary d) = r .ternary d
 
 -- ---- the open splits as one number
 

@@ -1,11 +1,12 @@
-// The coding tree of H.266: its types. The rules are in specs/, and the functions of a node in the crates above: splits, flags, blocks.
+// The coding tree of H.266: its types. The rules are in specs/, and the functions of a node are in the crates above:
+// splits, flags, blocks.
 // This layer knows the limits of one tree and no unit: luma is one kind of tree.
 
-// The limits of one tree: MinCb, MinQt, M (`depth`), MaxBt, MaxTt, and the picture's width and height.
+// The limits of one tree: MinCb, MinQt, M (`maxmtt`), MaxBt, MaxTt, and the picture's width and height.
 pub struct Limits {
     pub mincb: u32,
     pub minqt: u32,
-    pub depth: u32,
+    pub maxmtt: u32,
     pub maxbt: u32,
     pub maxtt: u32,
     pub width: u32,
@@ -67,3 +68,14 @@ pub struct Part {
     pub wide: u32,
     pub high: u32,
 }
+
+// The masks of the five splits in the number of a node's open splits; H names a horizontal cut, V a vertical one.
+pub const QT: u32 = 1;
+
+pub const BH: u32 = 2;
+
+pub const BV: u32 = 4;
+
+pub const TH: u32 = 8;
+
+pub const TV: u32 = 16;

@@ -5,18 +5,18 @@ use Rattle.settings.specs.Checks.{settingsRefusal}
 use Rattle.settings.specs.Units.{unitsOver, unitCount, unitRefusal, squareAt}
 use Rattle.tree.specs.Splits.{binaryClosed, binaryOpen, ternaryOpen, rightsOf}
 use Rattle.tree.specs.Flags.{flagAt, afterBinary, afterVertical, afterQuad, afterSplit, decide}
-use Rattle.tree.specs.Children.{shares, childQt, childMtt, childOffset, child, childrenFrom, children, starts}
+use Rattle.tree.specs.Children.{shares, childQt, childMtt, childOffset, child, childrenFrom, children, cornerInside}
 use Rattle.tree.specs.Rows.{rowOf, ownRows, rowBytes, tableBytes, rowsAt}
 use Rattle.tree.specs.Run.{before, goOn, overAll}
 use Rattle.tree.specs.Reading.{enter, walk}
 use Rattle.tree.specs.Back.{back}
-use Rattle.unit.specs.Answers.{deliver}
-use Rattle.unit.specs.Reader.{readEnd, readTree, readUnit}
-use Rattle.unit.specs.Writer.{writeEnd, writeTree, writeRows, writeFlags}
+use Rattle.unit.specs.Answers.{deliver, finishEnd}
+use Rattle.unit.specs.Reader.{noneAfter, rowsFrom, readTree, readUnit}
+use Rattle.unit.specs.Writer.{noneLeft, flagsFrom, writeTree, writeRows, writeFlags}
 use Rattle.unit.specs.Cases.{Checked}
 
 pub checked : Checked
-unfolding trailingZeros ones onesIn settingsRefusal unitsOver unitCount unitRefusal squareAt binaryClosed binaryOpen ternaryOpen rightsOf flagAt afterBinary afterVertical afterQuad afterSplit decide shares childQt childMtt childOffset child childrenFrom children starts rowOf ownRows rowBytes tableBytes rowsAt before goOn overAll enter walk back deliver readEnd readTree readUnit writeEnd writeTree writeRows writeFlags
+unfolding trailingZeros ones onesIn settingsRefusal unitsOver unitCount unitRefusal squareAt binaryClosed binaryOpen ternaryOpen rightsOf flagAt afterBinary afterVertical afterQuad afterSplit decide shares childQt childMtt childOffset child childrenFrom children cornerInside rowOf ownRows rowBytes tableBytes rowsAt before goOn overAll enter walk back deliver finishEnd noneAfter rowsFrom readTree readUnit noneLeft flagsFrom writeTree writeRows writeFlags
 checked = record {
   p1 = refl;
   p2 = refl;

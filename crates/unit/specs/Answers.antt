@@ -1,21 +1,22 @@
 -- Answers: document 01's numbers and values, and what a call leaves in the buffer that it was lent.
 use Prim.Native.Nat.{ℕ}
-use mathlib.Core.Bool.{Bool, true, false, cond}
-use mathlib.Core.List.{List, [], _∷_, _++_}
+use mathlib.Core.Bool.{cond}
+use mathlib.Core.List.{List, _++_}
 use lib.ListN.{length, drop}
 use lib.Dec.{ltb}
+use Rattle.tree.specs.Run.{Run, End, goes, stops}
 use Rattle.unit.specs.declared.Answer.{Answer}
-use Rattle.unit.specs.declared.Answer.the-variants.{Accepted, Refusal}
+use Rattle.unit.specs.declared.Answer.the-variants.{Accepted, Refused}
 
 -- document 01's number of an answer: that of a refusal, or 0 where the call is accepted
 abbrev pub numberOf : Answer → ℕ
 numberOf (Accepted count) = 0
-numberOf (Refusal number place) = number
+numberOf (Refused number place) = number
 
 -- its value: the place of a refusal, or the number of rows or flags that an accepted call answers
 abbrev pub valueOf : Answer → ℕ
 valueOf (Accepted count) = count
-valueOf (Refusal number place) = place
+valueOf (Refused number place) = place
 
 -- a call's answer, and what the buffer that it was lent holds afterwards
 pub record Outcome : Type 0 where
@@ -24,13 +25,20 @@ pub record Outcome : Type 0 where
 
 -- "Buffers and session stay untouched"
 abbrev pub refused : ℕ → ℕ → List ℕ → Outcome
-refused number place buffer = record { answer = Refusal number place; buffer = buffer }
+refused number place buffer = record { answer = Refused number place; buffer = buffer }
 
 -- "Bytes of a lent buffer past the answer stay untouched"
-abbrev pub laid : List ℕ → List ℕ → List ℕ
-laid bytes buffer = bytes ++ drop (length bytes) buffer
+abbrev pub accepted : ℕ → List ℕ → List ℕ → Outcome
+accepted count bytes buffer = record { answer = Accepted count; buffer = bytes ++ drop (length bytes) buffer }
 
 -- So many rows or flags, as bytes, into a buffer: refused with a number where it is too short for them, the place the count that is needed.
 unfoldable pub deliver : ℕ → ℕ → List ℕ → List ℕ → Outcome
-deliver number count bytes buffer =
-    cond (ltb (length buffer) (length bytes)) (refused number count buffer) (record { answer = Accepted count; buffer = laid bytes buffer })
+deliver number count bytes buffer = cond (ltb (length buffer) (length bytes)) (refused number count buffer) (accepted count bytes buffer)
+
+-- a run's own refusal, or what it gave, as bytes, into a buffer
+unfoldable pub finishEnd : {S : Type 0} → ℕ → ℕ → List ℕ → End S → List ℕ → Outcome
+finishEnd number count bytes (stops k p) buffer = refused k p buffer
+finishEnd number count bytes (goes s) buffer = deliver number count bytes buffer
+
+abbrev pub finish : {A S : Type 0} → (List A → List ℕ) → ℕ → Run A S → List ℕ → Outcome
+finish bytes number r buffer = finishEnd number (length (r .given)) (bytes (r .given)) (r .end) buffer

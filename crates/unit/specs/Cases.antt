@@ -6,13 +6,13 @@ use lib.ListN.{length, replicate}
 use Rattle.settings.specs.declared.Settings.{Settings}
 use Rattle.tree.specs.Rows.{Row, rowBytes, tableBytes}
 use Rattle.unit.specs.declared.Answer.the-variants.{Accepted}
-use Rattle.unit.specs.Answers.{Outcome, refused}
+use Rattle.unit.specs.Answers.{refused}
 use Rattle.unit.specs.Reader.{readUnit}
 use Rattle.unit.specs.Writer.{writeFlags}
 
 -- CTU side, MinCb, MinQt, M, MaxBt, MaxTt, width, height
 abbrev pub settings : ℕ → ℕ → ℕ → ℕ → ℕ → ℕ → ℕ → ℕ → Settings
-settings c b q m bt tt w h = record { ctu = c; mincb = b; minqt = q; depth = m; maxbt = bt; maxtt = tt; width = w; height = h }
+settings c b q m bt tt w h = record { ctu = c; mincb = b; minqt = q; maxmtt = m; maxbt = bt; maxtt = tt; width = w; height = h }
 
 -- setting A, at a width
 abbrev pub settingA : ℕ → Settings

@@ -12,7 +12,7 @@ abbrev pub limitsOf : Settings → Limits
 limitsOf s = record {
   mincb = s .mincb;
   minqt = s .minqt;
-  depth = s .depth;
+  maxmtt = s .maxmtt;
   maxbt = s .maxbt;
   maxtt = s .maxtt;
   width = s .width;

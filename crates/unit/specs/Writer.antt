@@ -1,6 +1,6 @@
 -- The way back of a single unit: document 01's refusals 1 to 10 and 15 to 17, the number of flags, and the flag buffer afterwards.
 use Prim.Native.Nat.{ℕ, _/_, _%_}
-use mathlib.Core.Bool.{Bool, true, false, cond}
+use mathlib.Core.Bool.{cond}
 use mathlib.Core.List.{List, [], _∷_}
 use lib.ListN.{length}
 use lib.Dec.{eqb}
@@ -11,18 +11,22 @@ use Rattle.tree.specs.Kind.{Kind}
 use Rattle.tree.specs.Rows.{Row, rowsAt}
 use Rattle.tree.specs.Run.{Run, End, goes, stops}
 use Rattle.tree.specs.Back.{backNode}
-use Rattle.unit.specs.Answers.{Outcome, refused, deliver}
+use Rattle.unit.specs.Answers.{Outcome, refused, finish}
 use Rattle.unit.specs.Luma.{kindOf, rootAt}
 
--- after the way back: its own refusal, 16; 16 where rows are left; 17 where the buffer is too short
-unfoldable pub writeEnd : List ℕ → List ℕ → End (List Row) → Outcome
-writeEnd buffer flags (stops number place) = refused number place buffer
-writeEnd buffer flags (goes (r ∷ rows)) = refused 16 0 buffer
-writeEnd buffer flags (goes []) = deliver 17 (length flags) flags buffer
+-- 16 too where rows are left
+unfoldable pub noneLeft : End (List Row) → End (List Row)
+noneLeft (stops number place) = stops number place
+noneLeft (goes []) = goes []
+noneLeft (goes (r ∷ rows)) = stops 16 0
+
+-- the flags that give exactly these rows, or refusal 16
+unfoldable pub flagsFrom : Kind → Node → List Row → Run ℕ (List Row)
+flagsFrom k root rows = record { given = backNode k root rows .given; end = noneLeft (backNode k root rows .end) }
 
 -- the way back of a whole tree's rows, refusals 16 and 17
 unfoldable pub writeTree : Kind → Node → List Row → List ℕ → Outcome
-writeTree k root rows buffer = writeEnd buffer (backNode k root rows .given) (backNode k root rows .end)
+writeTree k root rows buffer = finish (λ flags. flags) 17 (flagsFrom k root rows) buffer
 
 -- 15: row bytes no multiple of 8, its place the whole rows; then the way back of the rows
 unfoldable pub writeRows : Kind → Node → List ℕ → List ℕ → Outcome

@@ -11,7 +11,7 @@ ghost use Rattle.unit.specs.Luma.{limitsOf, rootOf};
 // The answer of a call: how many rows or flags it wrote, or a refusal's number and place.
 pub enum Answer {
     Accepted(usize),
-    Refusal(u32, usize),
+    Refused(u32, usize),
 }
 
 impl Answer {
@@ -21,7 +21,7 @@ impl Answer {
     {
         match self {
             Answer::Accepted(_) => 0,
-            Answer::Refusal(number, _) => number,
+            Answer::Refused(number, _) => number,
         }
     }
 
@@ -31,7 +31,7 @@ impl Answer {
     {
         match self {
             Answer::Accepted(count) => count,
-            Answer::Refusal(_, place) => place,
+            Answer::Refused(_, place) => place,
         }
     }
 }
@@ -43,7 +43,7 @@ pub fn limits(s: Settings) -> Limits
     Limits {
         mincb: s.mincb,
         minqt: s.minqt,
-        depth: s.depth,
+        maxmtt: s.maxmtt,
         maxbt: s.maxbt,
         maxtt: s.maxtt,
         width: s.width,

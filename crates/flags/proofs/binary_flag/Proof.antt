@@ -5,14 +5,8 @@ use Rattle.flags.proofs.binary_flag.Tie as tie
 binary-mask-requires : tie.Need-binary-mask-requires
 binary-mask-requires c κs = search needs
 
-has-requires : tie.Need-has-requires
-has-requires c κs = search needs
-
 ternary-mask-requires : tie.Need-ternary-mask-requires
 ternary-mask-requires c κs = search needs
-
-has-requires-2 : tie.Need-has-requires-2
-has-requires-2 c κs = search needs
 
 read-flag-requires : tie.Need-read-flag-requires
 read-flag-requires c κs = search needs
@@ -22,11 +16,4 @@ returns c = λ out. cc
 
 pub binary-flag-spec : {M : Type 1} → statement M
 binary-flag-spec =
-    tie.close
-    (tie.spec
-    binary-mask-requires
-    has-requires
-    ternary-mask-requires
-    has-requires-2
-    read-flag-requires
-    returns)
+    tie.close (tie.spec binary-mask-requires ternary-mask-requires read-flag-requires returns)

@@ -2,9 +2,6 @@ use borrow.Author.Needs.{needs}
 use Rattle.flags.proofs.quad_flag.Statement.{statement}
 use Rattle.flags.proofs.quad_flag.Tie as tie
 
-has-requires : tie.Need-has-requires
-has-requires c κs = search needs
-
 horizontal-requires : tie.Need-horizontal-requires
 horizontal-requires c κs = search needs
 
@@ -19,5 +16,4 @@ returns c = λ out. cc
 
 pub quad-flag-spec : {M : Type 1} → statement M
 quad-flag-spec =
-    tie.close
-    (tie.spec has-requires horizontal-requires vertical-requires read-flag-requires returns)
+    tie.close (tie.spec horizontal-requires vertical-requires read-flag-requires returns)

@@ -3,9 +3,6 @@ use borrow.Author.Needs.{needs}
 use Rattle.flags.proofs.split_flag.Statement.{statement}
 use Rattle.flags.proofs.split_flag.Tie as tie
 
-has-requires : tie.Need-has-requires
-has-requires c κs = search needs
-
 horizontal-requires : tie.Need-horizontal-requires
 horizontal-requires c κs = search needs
 
@@ -20,5 +17,4 @@ returns c = rw not-not (cc)
 
 pub split-flag-spec : {M : Type 1} → statement M
 split-flag-spec =
-    tie.close
-    (tie.spec has-requires horizontal-requires vertical-requires read-flag-requires returns)
+    tie.close (tie.spec horizontal-requires vertical-requires read-flag-requires returns)

@@ -14,14 +14,8 @@ enum-told-3 c = search needs
 enum-known-parent : tie.Need-enum-known-parent
 enum-known-parent c = search needs
 
-either-requires : tie.Need-either-requires
-either-requires c κs = search needs
-
-either-requires-2 : tie.Need-either-requires-2
-either-requires-2 c κs = search needs
-
-either-requires-3 : tie.Need-either-requires-3
-either-requires-3 c κs = search needs
+same-direction-requires : tie.Need-same-direction-requires
+same-direction-requires c κs = search needs
 
 returns : tie.Need-returns
 returns c = search needs
@@ -43,9 +37,7 @@ parent-ternary-spec =
     enum-told-2
     enum-told-3
     enum-known-parent
-    either-requires
-    either-requires-2
-    either-requires-3
+    same-direction-requires
     returns
     returns-2
     returns-3

@@ -1,6 +1,5 @@
-use Rattle.tree.specs.Children.{partOf}
 use native.Mathlib.Omega.{arith}
-use Rattle.tree.proofs.Shares.{share-within}
+use Rattle.blocks.proofs.Shares.{share-within}
 use borrow.Author.Needs.{needs}
 use Rattle.blocks.proofs.parts.part_at.Statement.{statement}
 use Rattle.blocks.proofs.parts.part_at.Tie as tie
@@ -21,7 +20,6 @@ quarters-requires-4 : tie.Need-quarters-requires-4
 quarters-requires-4 c κs = let w = rw (← c .before .before .before .share-at .ensures) at (share-within (c .before .before .before .before .args .d) (c .before .before .before .before .args .i)) in omega arith
 
 returns : tie.Need-returns
-unfolding partOf
 returns c = cc
 
 pub part-at-spec : {M : Type 1} → statement M

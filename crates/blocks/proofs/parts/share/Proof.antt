@@ -1,4 +1,4 @@
-use Rattle.tree.specs.Children.{shareTable}
+use Rattle.blocks.specs.Table.{shareTable}
 use borrow.Author.Needs.{needs}
 use Rattle.blocks.proofs.parts.share.Statement.{statement}
 use Rattle.blocks.proofs.parts.share.Tie as tie

@@ -1,4 +1,5 @@
-use Rattle.tree.specs.Children.{shareAt, shares}
+use Rattle.tree.specs.Children.{shares}
+use Rattle.blocks.specs.Table.{shareAt}
 use Rattle.tree.specs.Children.{shares}
 use borrow.Author.Needs.{needs}
 use Rattle.blocks.proofs.parts.share_at.Statement.{statement}

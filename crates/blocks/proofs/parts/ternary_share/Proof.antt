@@ -1,8 +1,9 @@
 use Rattle.tree.specs.declared.Decision.the-variants.{Ternary}
 use mathlib.Core.Path.{_∙_}
 use native.Mathlib.Omega.{arith}
-use Rattle.tree.proofs.Shares.{no-part, either-way}
-use Rattle.tree.specs.Children.{shareAt, shares, shareTable}
+use Rattle.blocks.proofs.Shares.{no-part, either-way}
+use Rattle.tree.specs.Children.{shares}
+use Rattle.blocks.specs.Table.{shareAt, shareTable}
 use borrow.Author.Needs.{needs}
 use Rattle.blocks.proofs.parts.ternary_share.Statement.{statement}
 use Rattle.blocks.proofs.parts.ternary_share.Tie as tie

@@ -4,7 +4,7 @@ use native.Mathlib.Numerals.{towards-suc}
 use lib.ListN.{length, length-set}
 use denote.Ref.{now}
 use Prim.Native.Nat.{_+_}
-use Rattle.tree.specs.Rows.{putWord, wordBytes}
+use Rattle.blocks.specs.Words.{putWord, wordBytes}
 use borrow.Author.Tests.{le-leb, lt-leb}
 use borrow.Author.Needs.{needs}
 use Rattle.blocks.proofs.rows.put_row.Statement.{statement}
@@ -12,14 +12,14 @@ use Rattle.blocks.proofs.rows.put_row.Tie as tie
 
 returns : tie.Need-returns
 unfolding putWord wordBytes
-returns c = let no = lt-leb (c .before .args .at + 8) (length (now (c .before .args .rows))) (omega arith) in (sym no, rw no)
+returns c = let no = lt-leb (c .before .args .at + 8) (length (now (c .before .args .rows))) (omega arith) in record { room = sym no; bytes = rw no }
 
 sub-if2 : tie.Need-sub-if2
 sub-if2 c = search needs
 
 returns-2 : tie.Need-returns-2
 unfolding putWord wordBytes
-returns-2 c = let no = lt-leb (c .before .before .args .at + 8) (length (now (c .before .before .args .rows))) (omega arith) in (sym no, rw no)
+returns-2 c = let no = lt-leb (c .before .before .args .at + 8) (length (now (c .before .before .args .rows))) (omega arith) in record { room = sym no; bytes = rw no }
 
 cast-rows : tie.Need-cast-rows
 cast-rows c = search needs
@@ -95,7 +95,7 @@ same-length c = simp length-set
 
 returns-3 : tie.Need-returns-3
 unfolding putWord wordBytes
-returns-3 c = let yes = le-leb (c .before .before .args .at + 8) (length (now (c .before .before .args .rows))) (omega arith) in (sym yes, rw yes (simp towards-suc))
+returns-3 c = let yes = le-leb (c .before .before .args .at + 8) (length (now (c .before .before .args .rows))) (omega arith) in record { room = sym yes; bytes = rw yes (simp towards-suc) }
 
 pub put-row-spec : {M : Type 1} → statement M
 put-row-spec =

@@ -33,7 +33,7 @@ multiple-requires-2 c κs = start (c .before .before .before .before .before .be
 
 -- where 7 and 8 pass, 9 decides
 third : (c : tie.After-multiple2) {b : Bool} → let s = c .before .before .before .before .before .before .before .args .s in
-    (eqb (s .depth) 0 && not (c .before .multiple .result && c .multiple2 .result)) ≡ b
+    (eqb (s .maxmtt) 0 && not (c .before .multiple .result && c .multiple2 .result)) ≡ b
     → firstHit 9 (b ∷ []) ≡ firstHit 7 (pictureRules s)
 third c h =
     let b = c .before .before .before in

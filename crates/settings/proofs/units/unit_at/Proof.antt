@@ -4,7 +4,7 @@ use Prim.Native.Nat.{_<_}
 use native.Mathlib.Omega.{arith}
 use borrow.Author.Needs.{needs}
 use borrow.Author.Tests.{eq-eqb, ne-eqb, le-leb, lt-leb}
-use Rattle.settings.specs.Units.{unitCount, unitRefusal, squareAt, placeOf}
+use Rattle.settings.specs.Units.{unitCount, unitRefusal, squareAt, located}
 use Rattle.settings.proofs.Passed.{Passed, passed}
 use Rattle.settings.proofs.Grid.{units-asks, units-some, count-most, corner-x, corner-y}
 use Rattle.settings.proofs.units.unit_at.Statement.{statement}
@@ -14,7 +14,7 @@ refusal-requires : tie.Need-refusal-requires
 refusal-requires c κs = search needs
 
 returns : tie.Need-returns
-unfolding placeOf unitRefusal
+unfolding located unitRefusal
 returns c = let n = ne-eqb _ 0 (c .if1 .taken) in rw (← c .before .refusal .ensures, n, n)
 
 pass : (c : tie.Else1) → Passed (c .before .before .args .s)
@@ -40,7 +40,7 @@ unfolding unitCount
 counted c = rw (c .wide .ensures, c .before .units-over2 .ensures, c .before .before .units-over .ensures)
 
 returns-2 : tie.Need-returns-2
-unfolding placeOf unitRefusal
+unfolding located unitRefusal
 returns-2 c =
     let a = c .before .before .before .before in
     rw (← a .before .refusal .ensures, eq-eqb _ 0 (a .if1 .left), le-leb _ _ (rw (counted (c .before)) at (c .if2 .taken)))
@@ -79,7 +79,7 @@ mul-t12 c =
     rw (b .before .before .before .units-over .ensures) (omega arith)
 
 returns-3 : tie.Need-returns-3
-unfolding placeOf unitRefusal squareAt
+unfolding located unitRefusal squareAt
 returns-3 c =
     let b = c .before .before in
     let u = b .before .before .before in

@@ -1,10 +1,11 @@
 -- A row as one number: its fields at their places, and its bytes.
 use Prim.Native.Nat.{ℕ, _+_, _*_, _/_, _%_, _<_}
 use mathlib.Core.Path.{_≡_, sym, ap, _∙_}
-use mathlib.Core.List.{List, [], _∷_}
+use mathlib.Core.List.{[], _∷_}
 use native.Mathlib.Omega.{arith}
 use native.Mathlib.Nat.{div-div-eq-div-mul}
-use Rattle.tree.specs.Rows.{Row, rowBytes, rowWord, wordOf, wordBytes}
+use Rattle.tree.specs.Rows.{Row, rowBytes}
+use Rattle.blocks.specs.Words.{rowWord, wordOf, wordBytes}
 
 pub word-is : (r : Row)
     → r .x % 65536 + r .y % 65536 * 65536 + (r .ew % 256 + r .eh % 256 * 256) * 4294967296 + (r .qt % 256 + r .mtt % 256 * 256) * 281474976710656

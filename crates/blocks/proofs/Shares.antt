@@ -1,20 +1,21 @@
 -- The table of shares: what stands past a split's last part, and that every part lies within its parent.
 use Prim.Native.Nat.{ℕ, zero, suc, _+_, _≤_}
 use mathlib.Core.Path.{_≡_, refl}
-use mathlib.Core.Bool.{Bool, true, false, _&&_}
+use mathlib.Core.Bool.{Bool, true, _&&_}
 use mathlib.Core.List.{List, [], _∷_}
 use lib.ListN.{length, getD, List·getD-eq-default}
 use lib.Dec.{leb}
 use borrow.Author.Tests.{leb-true}
 use native.Mathlib.Omega.{arith}
 use Rattle.sides.proofs.Bools.{and-left, and-right}
 use Rattle.tree.specs.declared.Share.{Share}
 use Rattle.tree.specs.declared.Direction.{Direction}
 use Rattle.tree.specs.declared.Direction.the-variants.{Horizontal, Vertical}
 use Rattle.tree.specs.declared.Decision.{Decision}
 use Rattle.tree.specs.declared.Decision.the-variants.{Leaf, Quad, Binary, Ternary}
 use Rattle.tree.specs.Splits.{pick}
-use Rattle.tree.specs.Children.{share, shares, shareAt}
+use Rattle.tree.specs.Children.{share, shares}
+use Rattle.blocks.specs.Table.{shareAt}
 
 -- a part number past the last part
 pub no-part : (d : Decision) (i : ℕ) → length (shares d) ≤ i → share 0 0 0 0 0 ≡ shareAt d i

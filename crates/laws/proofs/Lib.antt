@@ -1,0 +1,17 @@
+pub mod Tests
+pub mod Every
+pub mod Directions
+pub mod Multiples
+pub mod Bytes
+pub mod Flags
+pub mod Runs
+pub mod Walks
+pub mod Unique
+pub mod Opens
+pub mod Parts
+pub mod Shape
+pub mod Levels
+pub mod Picture
+pub mod Edge
+pub mod Refusals
+pub mod Reading

@@ -1,0 +1,56 @@
+-- The reading of a node is its coding tree: it accepts exactly the flags of its trees, with the rows of these trees; flags say one tree at most; and
+-- what it does not accept it refuses with 11 or 12.
+use Prim.Native.Nat.{ℕ, _+_, _≤_}
+use mathlib.Core.Path.{_≡_, sym, ap, _∙_}
+use mathlib.Core.Bool.{true}
+use mathlib.Core.List.{List, [], _∷_}
+use mathlib.Core.Logic.{_↔_}
+use native.Mathlib.Omega.{arith}
+use Rattle.tree.specs.declared.Limits.{Limits}
+use Rattle.tree.specs.declared.Node.{Node}
+use Rattle.tree.specs.Kind.{Kind, luma}
+use Rattle.tree.specs.Children.{cornerInside}
+use Rattle.tree.specs.Rows.{Row}
+use Rattle.tree.specs.Reading.{levelsLeft, walk, readNode}
+use Rattle.tree.specs.Tree.{Tree, flagsOf}
+use Rattle.laws.proofs.Every.{every-none, every-more}
+use Rattle.laws.proofs.Bytes.{Reads}
+use Rattle.laws.proofs.Runs.{gives, over-one}
+use Rattle.laws.proofs.Walks.{walkAll, Open, Grown, walk-complete, walk-sound}
+use Rattle.laws.proofs.Shape.{Shape}
+use Rattle.laws.proofs.Refusals.{Fine, walk-fine}
+use Rattle.laws.proofs.Levels.{levels-left}
+use Rattle.laws.proofs.Edge.{Valid, Good, edge-opens}
+use Rattle.laws.proofs.Unique.{alone}
+
+pub record ReadingIsTree (k : Kind) (n : Node) : Type 0 where
+  pub exactly : (flags : List ℕ) (at : ℕ) (rows : List Row) (to : ℕ) → readNode k flags n at ≡ gives rows to ↔ Grown k flags (n ∷ []) at rows to
+  pub only : (flags : List ℕ) (t u : Tree k n) (at to end : ℕ) → Reads flags at (flagsOf t) to → Reads flags at (flagsOf u) end → (t ≡ u) × (to ≡ end)
+  pub refused : (flags : List ℕ) (at : ℕ) → Fine (readNode k flags n at .end)
+
+-- in any kind whose walks meet no dead end
+module _ {k : Kind} {P : Node → Type 0} (opens : Open k P) (shape : (n : Node) → P n → Shape n) (cb : 4 ≤ k .limits .mincb) (qt : 4 ≤ k .limits .minqt) where
+  pub kind-reading : {n : Node} → P n → cornerInside (k .limits) n ≡ true → n .w + n .h + n .qt + n .mtt ≤ 256 → ReadingIsTree k n
+  kind-reading {n} p here fits = record {
+    exactly = λ flags at rows to. (grown flags at rows to, given flags at rows to);
+    only = λ flags t. alone flags t;
+    refused = λ flags at. walk-fine k flags P opens shape (levelsLeft n) n p (omega arith) here at;
+  }
+    where
+      one : (flags : List ℕ) (at : ℕ) → walkAll k flags (levelsLeft n) (n ∷ []) at ≡ readNode k flags n at
+      one flags at = over-one k (walk (levelsLeft n) k flags) n at here
+
+      grown : (flags : List ℕ) (at : ℕ) (rows : List Row) (to : ℕ) → readNode k flags n at ≡ gives rows to → Grown k flags (n ∷ []) at rows to
+      grown flags at rows to e =
+          rw (ap (λ r. r .given) (one flags at ∙ e)) at (walk-sound k flags P opens (levelsLeft n) (every-more p every-none) at to (ap (λ r. r .end) (one flags at ∙ e)))
+
+      given : (flags : List ℕ) (at : ℕ) (rows : List Row) (to : ℕ) → Grown k flags (n ∷ []) at rows to → readNode k flags n at ≡ gives rows to
+      given flags at rows to t =
+          sym (one flags at) ∙ walk-complete k flags (levelsLeft n) (t .trees) (levels-left k cb qt n (shape n p) fits (t .trees)) (t .reads) ∙ ap (λ r. gives r to) (t .same)
+
+-- in the luma kind
+pub reading-is-tree : {l : Limits} {n : Node} → Valid l → Good l n → cornerInside l n ≡ true → n .w + n .h + n .qt + n .mtt ≤ 256 → ReadingIsTree (luma l) n
+reading-is-tree {l} v g here fits =
+    let a = v .leastCb in
+    let b = v .leQt in
+    kind-reading (edge-opens l v) (λ n g. g .shape) a (omega arith) g here fits
