@@ -20,14 +20,14 @@ use Rattle.tree.specs.Kind.{Kind, luma}
 use Rattle.tree.specs.Splits.{along, across, rightOut, bottomOut, inside, outAlong, quadOpen, closedAcross, closedCorner, closedMiddle, binaryClosed, binaryOpen, rightsOf, allows, bit}
 use Rattle.tree.specs.Flags.{cutOpen, someOpen}
 use Rattle.tree.specs.Children.{child, childMtt, childOffset, children, cornerInside}
-use Rattle.laws.proofs.Every.{Every}
+use Rattle.laws.specs.Every.{Every}
+use Rattle.laws.proofs.Picture.{starts-in, out-past, out-some, cut-out, child-out, child-corners}
 use Rattle.laws.proofs.Directions.{corner, extent, other-side, square-sides}
 use Rattle.laws.proofs.Multiples.{Multiple, Fold, fold-multiple, fold-least, same-multiple, trans-multiple, trans-fold, power-fold, apart}
 use Rattle.laws.proofs.Opens.{luma-may, quad-open, BinaryOpen, binary-open, ternary-open}
 use Rattle.laws.proofs.Parts.{least, Piece, no-piece, every-child, child-under, child-fold, child-start}
 use Rattle.laws.proofs.Walks.{Open}
 use Rattle.laws.proofs.Shape.{Shape, side-four, quad-room, room, shape-child}
-use Rattle.laws.proofs.Picture.{starts-in, out-past, out-some, cut-out, child-out, child-corners}
 
 -- ---- limits that pass the checks, and the nodes of their trees
 

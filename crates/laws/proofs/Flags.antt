@@ -7,7 +7,7 @@ use lib.ListN.{length, getD}
 use lib.Dec.{leb, ltb, eqb}
 use borrow.Author.Tests.{lt-ltb, ltb-true, leb-true, eqb-true, eqb-false}
 use native.Mathlib.Omega.{arith}
-use Rattle.sides.proofs.Bools.{and-left, and-right, and-intro, same, same-eq, forBool, at-bool, forFive, at-five}
+use Rattle.sides.proofs.Bools.{and-left, and-right, and-intro, same, same-eq}
 use Rattle.tree.specs.declared.Direction.{Direction}
 use Rattle.tree.specs.declared.Direction.the-variants.{Horizontal, Vertical}
 use Rattle.tree.specs.declared.Decision.{Decision}
@@ -18,7 +18,7 @@ use Rattle.tree.specs.declared.Choice.the-variants.{Chosen}
 use Rattle.tree.specs.Splits.{pick, bit, Rights, allows}
 use Rattle.tree.specs.Flags.{someOpen, splitThere, splitAbsent, quadThere, quadAbsent, verticalThere, verticalAbsent, binaryThere, binaryAbsent, flagAt, afterBinary, cutAt, afterVertical, afterQuad, afterSplit, decide, flagByte, cutFlags, flagsFor}
 use Rattle.laws.proofs.Tests.{never, same-self}
-use Rattle.laws.proofs.Directions.{two-ways}
+use Rattle.laws.proofs.Rights.{forRights, at-rights}
 use Rattle.laws.proofs.Bytes.{Reads, nothing, byte, reads-join, reads-part}
 
 -- ---- one flag
@@ -80,16 +80,10 @@ canSay r (Binary d) = canCut r d true
 canSay r (Ternary d) = canCut r d false
 
 -- At a node that is inside the picture or has an open split these are the allowed decisions: a test of all rights.
-abbrev rights : Bool → Bool → Bool → Bool → Bool → Bool → Rights
-rights w q bh bv th tv = record { within = w; quad = q; binary = λ d. pick d bh bv; ternary = λ d. pick d th tv }
-
 abbrev agree : Decision → Rights → Bool
 agree d r = same (allows r d) ((r .within || someOpen r) && canSay r d)
 
-abbrev agreeAll : Decision → Bool → Bool
-agreeAll d w = forFive (λ q bh bv th tv. agree d (rights w q bh bv th tv))
-
-agree-test : (d : Decision) → forBool (agreeAll d) ≡ true
+agree-test : (d : Decision) → forRights (agree d) ≡ true
 agree-test Leaf = refl
 agree-test Quad = refl
 agree-test (Binary Horizontal) = refl
@@ -97,15 +91,8 @@ agree-test (Binary Vertical) = refl
 agree-test (Ternary Horizontal) = refl
 agree-test (Ternary Vertical) = refl
 
-all-rights : (r : Rights) → rights (r .within) (r .quad) (r .binary Horizontal) (r .binary Vertical) (r .ternary Horizontal) (r .ternary Vertical) ≡ r
-all-rights r = λ i. record { within = r .within; quad = r .quad; binary = λ d. two-ways (r .binary) d i; ternary = λ d. two-ways (r .ternary) d i }
-
 may-say : (r : Rights) (d : Decision) → allows r d ≡ ((r .within || someOpen r) && canSay r d)
-may-say r d =
-    same-eq (allows r d) ((r .within || someOpen r) && canSay r d)
-    (ap (agree d) (sym (all-rights r))
-    ∙ at-five (λ q bh bv th tv. agree d (rights (r .within) q bh bv th tv)) (at-bool (agreeAll d) (agree-test d) (r .within))
-    (r .quad) (r .binary Horizontal) (r .binary Vertical) (r .ternary Horizontal) (r .ternary Vertical))
+may-say r d = same-eq (allows r d) ((r .within || someOpen r) && canSay r d) (at-rights (agree d) (agree-test d) r)
 
 -- ---- from a decision's flags to the decision
 

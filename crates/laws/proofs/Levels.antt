@@ -16,7 +16,7 @@ use Rattle.tree.specs.Splits.{rightsOf, allows}
 use Rattle.tree.specs.Children.{child, children}
 use Rattle.tree.specs.Reading.{levelsLeft}
 use Rattle.tree.specs.Tree.{Trees, Tree, none, skip, node}
-use Rattle.laws.proofs.Every.{Every, every-none, every-more}
+use Rattle.laws.specs.Every.{Every, every-none, every-more}
 use Rattle.laws.proofs.Multiples.{fold-least, four-quarters}
 use Rattle.laws.proofs.Parts.{Piece, every-child, slice}
 use Rattle.laws.proofs.Shape.{side-four, Shape, shape-child}

@@ -14,7 +14,7 @@ use Rattle.tree.specs.declared.Decision.the-variants.{Leaf, Quad, Binary, Terna
 use Rattle.tree.specs.Kind.{Kind}
 use Rattle.tree.specs.Splits.{pick, along}
 use Rattle.tree.specs.Children.{shares, child, childrenFrom, children}
-use Rattle.laws.proofs.Every.{Every, every-none, every-more}
+use Rattle.laws.specs.Every.{Every, every-none, every-more}
 use Rattle.laws.proofs.Directions.{corner}
 use Rattle.laws.proofs.Multiples.{Multiple, Fold, fold-multiple, add-multiple, multiple-times, mod-multiple, trans-multiple, four-quarters, quarters, fold-share}
 

@@ -1,11 +1,11 @@
 -- Nodes and the edge of the picture, by direction.
-use Prim.Native.Nat.{_+_, _<_}
+use Prim.Native.Nat.{_+_, _≤_, _<_}
 use mathlib.Core.Path.{_≡_, refl, ap}
 use mathlib.Core.Bool.{Bool, true, false, not, _&&_, _||_}
 use lib.Dec.{ltb}
-use borrow.Author.Tests.{ltb-true, lt-ltb}
+use borrow.Author.Tests.{ltb-true, ltb-false, lt-ltb, not-true}
 use native.Mathlib.Omega.{arith}
-use Rattle.sides.proofs.Bools.{and-left, and-right, and-intro, and-no, or-right}
+use Rattle.sides.proofs.Bools.{and-left, and-right, and-intro, and-no, or-right, or-none-left, or-none-right}
 use Rattle.tree.specs.declared.Limits.{Limits}
 use Rattle.tree.specs.declared.Node.{Node}
 use Rattle.tree.specs.declared.Share.{Share}
@@ -33,6 +33,15 @@ module _ (l : Limits) (n : Node) where
   pub past-out : (e : Direction) → extent e l < corner e n + along e n → outAlong e l n ≡ true
   past-out Horizontal h = lt-ltb _ _ h
   past-out Vertical h = lt-ltb _ _ h
+
+  -- a node that is not out of the picture ends in it
+  pub not-out : (e : Direction) → outAlong e l n ≡ false → corner e n + along e n ≤ extent e l
+  not-out Horizontal h = ltb-false _ _ h
+  not-out Vertical h = ltb-false _ _ h
+
+  pub inside-end : inside l n ≡ true → (e : Direction) → corner e n + along e n ≤ extent e l
+  inside-end h Horizontal = not-out Horizontal (or-none-right (rightOut l n) _ (not-true _ h))
+  inside-end h Vertical = not-out Vertical (or-none-left _ (bottomOut l n) (not-true _ h))
 
   -- a node out of the picture is out in a direction whose cut `closedAcross` leaves open
   pub out-some : inside l n ≡ false → (e : Direction) × (outAlong e l n ≡ true) × (closedAcross l n e ≡ false)

@@ -13,7 +13,7 @@ use Rattle.tree.specs.Children.{cornerInside}
 use Rattle.tree.specs.Rows.{Row}
 use Rattle.tree.specs.Reading.{levelsLeft, walk, readNode}
 use Rattle.tree.specs.Tree.{Tree, flagsOf}
-use Rattle.laws.proofs.Every.{every-none, every-more}
+use Rattle.laws.specs.Every.{every-none, every-more}
 use Rattle.laws.proofs.Bytes.{Reads}
 use Rattle.laws.proofs.Runs.{gives, over-one}
 use Rattle.laws.proofs.Walks.{walkAll, Open, Grown, walk-complete, walk-sound}

@@ -22,7 +22,8 @@ use Rattle.tree.specs.Rows.{Row}
 use Rattle.tree.specs.Run.{End, goes, stops, Run, before, overAll}
 use Rattle.tree.specs.Reading.{enter, walk}
 use Rattle.laws.proofs.Tests.{never}
-use Rattle.laws.proofs.Every.{Every, every-map, every-both}
+use Rattle.laws.specs.Every.{Every}
+use Rattle.laws.proofs.Every.{every-map, every-both}
 use Rattle.laws.proofs.Flags.{decide-sound}
 use Rattle.laws.proofs.Multiples.{fold-least}
 use Rattle.laws.proofs.Parts.{every-child}

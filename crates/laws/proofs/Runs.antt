@@ -7,7 +7,7 @@ use Rattle.tree.specs.Kind.{Kind}
 use Rattle.tree.specs.Children.{cornerInside}
 use Rattle.tree.specs.Run.{End, goes, stops, Run, before, goOn, andThen, overAll}
 use Rattle.laws.proofs.Tests.{never}
-use Rattle.laws.proofs.Every.{Every, every-none, every-more}
+use Rattle.laws.specs.Every.{Every, every-none, every-more}
 
 module _ {A S : Type 0} where
   -- an accepted run

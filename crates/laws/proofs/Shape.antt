@@ -17,7 +17,7 @@ use Rattle.tree.specs.declared.Decision.the-variants.{Leaf, Quad, Binary, Terna
 use Rattle.tree.specs.Kind.{Kind, luma}
 use Rattle.tree.specs.Splits.{along, rightsOf, allows}
 use Rattle.tree.specs.Children.{child, childMtt, children}
-use Rattle.laws.proofs.Every.{Every}
+use Rattle.laws.specs.Every.{Every}
 use Rattle.laws.proofs.Multiples.{Multiple, Fold, fold-least, fold-multiple, same-multiple, power-fold}
 use Rattle.laws.proofs.Opens.{luma-may, QuadOpen, quad-open, binary-open, ternary-open}
 use Rattle.laws.proofs.Parts.{least, cutLeast, Piece, every-child, child-fold, child-under}

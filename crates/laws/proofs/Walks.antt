@@ -17,7 +17,7 @@ use Rattle.tree.specs.Run.{goes, Run, before, goOn, overAll}
 use Rattle.tree.specs.Reading.{enter, walk}
 use Rattle.tree.specs.Tree.{Trees, none, skip, node, flagsOf, rowsOf}
 use Rattle.laws.proofs.Tests.{never}
-use Rattle.laws.proofs.Every.{Every, every-none, every-more}
+use Rattle.laws.specs.Every.{Every, every-none, every-more}
 use Rattle.laws.proofs.Bytes.{Reads, nothing, reads-join, reads-part}
 use Rattle.laws.proofs.Flags.{decide-complete, decide-sound}
 use Rattle.laws.proofs.Runs.{gives, joined, over-here, over-gone}

@@ -1,0 +1,140 @@
+-- Every row of a unit lies inside one pipeline unit or consists of whole ones: no open split of a node above 64 cuts through one.
+use Prim.Native.Nat.{ℕ, _*_, _%_, _≤_, _<_, min, max}
+use mathlib.Core.Path.{_≡_, refl}
+use mathlib.Core.Logic.{_⊎_, inl, inr}
+use mathlib.Core.Bool.{true, false}
+use borrow.Author.Tests.{ltb-false, le-leb}
+use native.Mathlib.Omega.{arith}
+use native.Mathlib.Decide.{decLt}
+use Rattle.tree.specs.declared.Limits.{Limits}
+use Rattle.tree.specs.declared.Node.{Node}
+use Rattle.tree.specs.declared.Direction.{Direction}
+use Rattle.tree.specs.declared.Direction.the-variants.{Horizontal, Vertical}
+use Rattle.tree.specs.declared.Decision.{Decision}
+use Rattle.tree.specs.declared.Decision.the-variants.{Leaf, Quad, Binary, Ternary}
+use Rattle.tree.specs.Kind.{Kind, luma}
+use Rattle.tree.specs.Splits.{along, across, closedNarrow, rightsOf, allows}
+use Rattle.tree.specs.Children.{children}
+use Rattle.tree.specs.Rows.{rowOf}
+use Rattle.tree.specs.Tree.{Tree, rowsOf}
+use Rattle.laws.specs.Geometry.{InOneCell, OfWholeCells}
+use Rattle.laws.specs.Every.{Every, every-none, every-more}
+use Rattle.laws.proofs.Leaves.{leaf-start, leaf-side}
+use Rattle.laws.proofs.EveryRow.{every-row}
+use Rattle.laws.proofs.Every.{every-map}
+use Rattle.laws.proofs.Directions.{corner, both-sides}
+use Rattle.laws.proofs.Multiples.{Multiple, Fold, fold-multiple, fold-least, trans-multiple}
+use Rattle.laws.proofs.Opens.{luma-may, quad-open, binary-open, ternary-open}
+use Rattle.laws.proofs.Parts.{least, cutLeast, every-child, child-fold, child-start}
+use Rattle.laws.proofs.Shape.{Shape, shape-child}
+use Rattle.laws.proofs.Edge.{Grid}
+use Rattle.laws.proofs.Cells.{InOne, larger-fold, small-in-one, one-kids, one-leaf, in-one-cell}
+
+fold-64 : Fold 4 64
+fold-64 = record { power = 4; is = refl }
+
+-- ---- a node of whole cells
+
+record Whole (n : Node) : Type 0 where
+  shape : Shape n
+  grid : Grid 64 n
+
+module _ (n : Node) (w : Whole n) where
+  -- no longer than one cell: inside it
+  whole-one : n .w ≤ 64 → n .h ≤ 64 → InOne 64 n
+  whole-one a b = record { shape = w .shape; cell = λ e. let s = both-sides n a b e in let l = fold-least (w .grid .side e) in let m = w .grid .at e .is in omega arith }
+
+  -- longer: an open split leaves whole cells
+  module _ (long : 64 < max (n .w) (n .h)) where
+    cut-long : (d : Direction) → closedNarrow n d ≡ false → 64 < along d n
+    cut-long d h = go (decLt 64 (along d n))
+      where
+        either : (d : Direction) → 64 < max (along d n) (across d n)
+        either Horizontal = omega arith
+        either Vertical = omega arith
+
+        go : Dec (64 < along d n) → 64 < along d n
+        go (yes i) = i
+        go (no i) =
+            let b = ltb-false 64 (across d n) (rw (le-leb (along d n) 64 (omega arith)) at h) in
+            let m = either d in
+            absurd (omega arith)
+
+    square-room : n .w ≡ n .h → (e : Direction) → 64 * 2 < along e n * 2
+    square-room s Horizontal = omega arith
+    square-room s Vertical = omega arith
+
+    cut-room : (d : Direction) → 64 < along d n → (e : Direction) → 64 * 2 < along e n * cutLeast 2 d e
+    cut-room Horizontal h Horizontal = omega arith
+    cut-room Horizontal h Vertical = let l = fold-least (w .grid .side Vertical) in omega arith
+    cut-room Vertical h Horizontal = let l = fold-least (w .grid .side Horizontal) in omega arith
+    cut-room Vertical h Vertical = omega arith
+
+    whole-room : (l : Limits) (d : Decision) → allows (rightsOf (luma l) n) d ≡ true → (e : Direction) → 64 * 2 < along e n * least d e
+    unfolding rightsOf
+    whole-room l Leaf ok e = let h = fold-least (w .grid .side e) in omega arith
+    whole-room l Quad ok e = square-room (w .shape .square (quad-open l n ok .top)) e
+    whole-room l (Binary d) ok e = cut-room d (cut-long d (binary-open l n d ok .narrow)) e
+    whole-room l (Ternary d) ok e = let a = ternary-open l n d ok .tt in let b = a Vertical in let c = a Horizontal in absurd (omega arith)
+
+-- ---- a node inside one cell, or of whole cells
+
+abbrev Placed : Node → Type 0
+Placed n = InOne 64 n ⊎ Whole n
+
+module _ (k : Kind) (cb : 4 ≤ k .limits .mincb) (qt : 4 ≤ k .limits .minqt) where
+  placed-kids : (n : Node) → Placed n → (d : Decision) → allows (rightsOf k n) d ≡ true → Every Placed (children (k .limits) n d)
+  placed-kids n (inl i) d ok = every-map (λ c. inl) (one-kids k cb qt 64 (omega arith) n i d ok)
+  placed-kids n (inr w) d ok = go (decLt 64 (max (n .w) (n .h)))
+    where
+      go : Dec (64 < max (n .w) (n .h)) → Every Placed (children (k .limits) n d)
+      go (yes long) = let room = whole-room n w long (k .limits) d (luma-may k n d ok) in every-child k n d (λ p piece. inr (record {
+        shape = shape-child k n cb qt (w .shape) d ok p piece;
+        grid = record {
+          side = λ e. child-fold (k .limits) n piece e (fold-multiple fold-64) (w .grid .side e) (room e);
+          at = λ e. child-start (k .limits) n piece e (fold-multiple fold-64) (w .grid .side e) (room e) (w .grid .at e);
+        };
+      }))
+      go (no long) = every-map (λ c. inl) (one-kids k cb qt 64 (omega arith) n (whole-one n w (omega arith) (omega arith)) d ok)
+
+  placed-leaf : (n : Node) → Placed n → InOneCell 64 (rowOf n) ⊎ OfWholeCells 64 (rowOf n)
+  placed-leaf n (inl i) = inl (one-leaf k cb qt 64 (omega arith) n i)
+  placed-leaf n (inr w) = inr (record {
+    left = rw (leaf-start n Vertical) (at Vertical);
+    top = rw (leaf-start n Horizontal) (at Horizontal);
+    wide = rw (leaf-side (w .shape) Vertical) (side Vertical);
+    high = rw (leaf-side (w .shape) Horizontal) (side Horizontal);
+  })
+    where
+      at : (e : Direction) → corner e n % 64 ≡ 0
+      at e = let m = w .grid .at e .is in omega arith
+
+      side : (e : Direction) → along e n % 64 ≡ 0
+      side e = let m = w .grid .side e .is in omega arith
+
+  -- ---- a square at a multiple of its side, as a unit is
+
+  module _ {n : Node} (sh : Shape n) (square : n .w ≡ n .h) (at : (e : Direction) → Multiple (along e n) (corner e n)) (t : Tree k n) where
+    root-placed : Dec (64 < n .w) → Placed n
+    root-placed (no h) = inl (small-in-one fold-64 sh at (both-sides n (omega arith) (omega arith)))
+    root-placed (yes h) = inr (record { shape = sh; grid = record { side = side; at = λ e. trans-multiple (fold-multiple (side e)) (at e) } })
+      where
+        long : (e : Direction) → 64 ≤ along e n
+        long Horizontal = omega arith
+        long Vertical = omega arith
+
+        side : (e : Direction) → Fold 64 (along e n)
+        side e = larger-fold fold-64 (sh .side e .fold) (long e)
+
+    -- in cells of 64, and of any power of two from the square's side on
+    pub in-pipeline : (c : ℕ) → Fold 4 c → (n .w ≤ c) ⊎ (c ≡ 64) → Every (λ r. InOneCell c r ⊎ OfWholeCells c r) (rowsOf t)
+    in-pipeline c f (inl le) = let l = fold-least f in every-map (λ r. inl) (in-one-cell k cb qt c (omega arith) (small-in-one f sh at (both-sides n le (omega arith))) t)
+    in-pipeline c f (inr e) = rw e (every-row k placed-kids (λ n p h. placed-leaf n p) t (every-more (root-placed (decLt 64 (n .w))) every-none))
+
+    -- so in cells of the smaller of 64 and the square's side
+    pub in-smaller-pipeline : Every (λ r. InOneCell (min 64 (n .w)) r ⊎ OfWholeCells (min 64 (n .w)) r) (rowsOf t)
+    in-smaller-pipeline = go (decLt 64 (n .w))
+      where
+        go : Dec (64 < n .w) → Every (λ r. InOneCell (min 64 (n .w)) r ⊎ OfWholeCells (min 64 (n .w)) r) (rowsOf t)
+        go (yes h) = let e : min 64 (n .w) ≡ 64 = omega arith in rw e (in-pipeline 64 fold-64 (inr refl))
+        go (no h) = let e : min 64 (n .w) ≡ n .w = omega arith in rw e (in-pipeline (n .w) (sh .side Vertical .fold) (inl (omega arith)))

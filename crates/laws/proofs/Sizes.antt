@@ -1,0 +1,84 @@
+-- How many samples the rows of a coding tree have, and so how many rows and flags it has at most.
+use Prim.Native.Nat.{ℕ, _+_, _-_, _*_, _≤_, min}
+use mathlib.Core.Path.{_≡_, refl, ap₂, _∙_}
+use mathlib.Core.Bool.{true}
+use mathlib.Core.List.{List, [], _∷_}
+use lib.ListN.{length}
+use native.Mathlib.Omega.{arith}
+use native.Mathlib.Nat.{mul-le-mul}
+use Rattle.tree.specs.declared.Node.{Node}
+use Rattle.tree.specs.declared.Direction.{Direction}
+use Rattle.tree.specs.declared.Direction.the-variants.{Horizontal, Vertical}
+use Rattle.tree.specs.Kind.{Kind}
+use Rattle.tree.specs.Splits.{inside}
+use Rattle.tree.specs.Children.{cornerInside}
+use Rattle.tree.specs.Rows.{Row}
+use Rattle.tree.specs.Tree.{Tree, flagsOf, rowsOf}
+use Rattle.laws.specs.Geometry.{areaOf, clip}
+use Rattle.laws.specs.Every.{Every, every-none, every-more}
+use Rattle.laws.proofs.Picture.{inside-end}
+use Rattle.laws.proofs.Leaves.{rowSide, leaf-side}
+use Rattle.laws.proofs.EveryRow.{every-row}
+use Rattle.laws.proofs.Directions.{extent}
+use Rattle.laws.proofs.Multiples.{fold-least}
+use Rattle.laws.proofs.Shape.{Shape, shape-kids}
+use Rattle.laws.proofs.Measure.{UpTo, ofRows, measured}
+use Rattle.laws.proofs.FlagCounts.{flags-four-rows}
+
+-- ---- samples
+
+gaps : (x y z : ℕ) → x ≤ y → y ≤ z → z - x ≡ y - x + (z - y)
+gaps x y z h k = omega arith
+
+clip-join : (end a k l : ℕ) → clip end a (k + l) ≡ clip end a k + clip end (a + k) l
+clip-join end a k l =
+    let e : a + (k + l) ≡ a + k + l = omega arith in
+    rw e (gaps (min end a) (min end (a + k)) (min end (a + k + l)) (omega arith) (omega arith))
+
+-- the number of samples before an end is a measure
+length-measure : (end : ℕ) → UpTo end (λ a l. l) (clip end)
+length-measure end = record {
+  same = λ a l h. omega arith;
+  past = λ a l h. omega arith;
+  empty = λ a. omega arith;
+  join = clip-join end;
+}
+
+area-rows : (rows : List Row) → areaOf rows ≡ ofRows (λ e a l. l) rows
+unfolding areaOf
+area-rows [] = refl
+area-rows (r ∷ rows) = rw (area-rows rows)
+
+-- rows of sides from 4 on
+area-least : {rows : List Row} → Every (λ r. (e : Direction) → 4 ≤ rowSide e r) rows → 16 * length rows ≤ areaOf rows
+unfolding areaOf
+area-least every-none = omega arith
+area-least (every-more {a = r} h hs) = let a = mul-le-mul (h Vertical) (h Horizontal) in let b = area-least hs in omega arith
+
+module _ (k : Kind) {n : Node} (cb : 4 ≤ k .limits .mincb) (qt : 4 ≤ k .limits .minqt) (sh : Shape n) (t : Tree k n) where
+  -- the samples of the rows are those of the node in the picture
+  pub areas-in-picture : areaOf (rowsOf t) ≡ clip (k .limits .width) (n .x) (n .w) * clip (k .limits .height) (n .y) (n .h)
+  areas-in-picture = area-rows (rowsOf t) ∙ measured k (λ e. length-measure (extent e (k .limits))) cb qt t (every-more sh every-none) ∙ omega arith
+
+  pub areas : inside (k .limits) n ≡ true → areaOf (rowsOf t) ≡ n .w * n .h
+  areas h =
+      let w = inside-end (k .limits) n h Vertical in
+      let v = inside-end (k .limits) n h Horizontal in
+      areas-in-picture ∙ ap₂ (λ a b. a * b) (omega arith) (omega arith)
+
+  sides-least : Every (λ r. (e : Direction) → 4 ≤ rowSide e r) (rowsOf t)
+  sides-least = every-row k (λ n sh d ok. shape-kids k n cb qt sh d ok) (λ n sh h e. rw (leaf-side sh e) (fold-least (sh .side e .fold))) t (every-more sh every-none)
+
+  -- a row has 16 samples at least: a unit has 1,024 rows at most
+  pub rows-fit : 16 * length (rowsOf t) ≤ n .w * n .h
+  rows-fit =
+      let a = area-least sides-least in
+      let b = areas-in-picture in
+      let w : clip (k .limits .width) (n .x) (n .w) ≤ n .w = omega arith in
+      let v : clip (k .limits .height) (n .y) (n .h) ≤ n .h = omega arith in
+      let c = mul-le-mul w v in
+      omega arith
+
+  -- so 4,094 flags at most
+  pub flags-fit : cornerInside (k .limits) n ≡ true → 4 * (length (flagsOf t) + 2) ≤ n .w * n .h
+  flags-fit here = let a = flags-four-rows k cb qt sh here t in let b = rows-fit in omega arith
