@@ -1,1 +1,9 @@
 pub mod Checked
+pub mod Roots
+pub mod Accepts
+pub mod Parsed
+pub mod TreeReading
+pub mod TreeTurning
+pub mod ReadsExactly
+pub mod TurnsExactly
+pub mod RoundTrips

@@ -3,3 +3,4 @@ pub mod Luma
 pub mod Reader
 pub mod Writer
 pub mod Cases
+pub mod Exactly

@@ -1,0 +1,44 @@
+-- What a call answers: laws of the delivery into a buffer.
+use Prim.Native.Nat.{ℕ, _≤_}
+use mathlib.Core.Path.{_≡_, refl}
+use mathlib.Core.Bool.{Bool, true, false, cond}
+use mathlib.Core.List.{List, [], _∷_}
+use mathlib.Core.Logic.{inl, inr}
+use lib.ListN.{length, take, drop}
+use lib.Seq.{take-append-seam}
+use lib.Dec.{ltb}
+use borrow.Author.Tests.{le-ltb}
+use Rattle.laws.proofs.Tests.{never}
+use Rattle.unit.specs.declared.Answer.the-variants.{Accepted}
+use Rattle.unit.specs.Answers.{numberOf, Outcome, refused, accepted, deliver}
+use Rattle.unit.specs.Exactly.{OneOf}
+
+module _ (number count : ℕ) (bytes buffer : List ℕ) where
+  -- into a buffer that is long enough
+  pub deliver-all : length bytes ≤ length buffer → deliver number count bytes buffer ≡ accepted count bytes buffer
+  unfolding deliver
+  deliver-all h = rw (le-ltb (length buffer) (length bytes) h)
+
+  -- an accepted delivery: its count, and its bytes at the beginning of the buffer
+  pub delivered : {m : ℕ} → deliver number count bytes buffer .answer ≡ Accepted m → (count ≡ m) × (take (length bytes) (deliver number count bytes buffer .buffer) ≡ bytes)
+  unfolding deliver
+  delivered {m} e = go (ltb (length buffer) (length bytes)) e
+    where
+      go : (b : Bool) → cond b (refused number count buffer) (accepted count bytes buffer) .answer ≡ Accepted m
+          → (count ≡ m) × (take (length bytes) (cond b (refused number count buffer) (accepted count bytes buffer) .buffer) ≡ bytes)
+      go true e = never (cc)
+      go false e = (cc, take-append-seam bytes (drop (length bytes) buffer))
+
+  -- its number is 0 or the one given
+  pub deliver-number : OneOf (numberOf (deliver number count bytes buffer .answer)) (0 ∷ number ∷ [])
+  unfolding deliver
+  deliver-number = go (ltb (length buffer) (length bytes))
+    where
+      go : (b : Bool) → OneOf (numberOf (cond b (refused number count buffer) (accepted count bytes buffer) .answer)) (0 ∷ number ∷ [])
+      go true = inr (inl refl)
+      go false = inl refl
+
+-- a call that is accepted met no refusal before
+pub met-none : (b : Bool) (o : Outcome) (number place : ℕ) (buffer : List ℕ) {m : ℕ} → cond b o (refused number place buffer) .answer ≡ Accepted m → b ≡ true
+met-none true o number place buffer e = refl
+met-none false o number place buffer e = never (cc)

@@ -1,0 +1,97 @@
+-- The rows of a unit that is there are turned back exactly as its coding trees say.
+use Prim.Native.Nat.{ℕ, _%_}
+use mathlib.Core.Path.{_≡_, sym, ap, _∙_}
+use mathlib.Core.List.{List, [], _∷_}
+use mathlib.Core.Logic.{_⊎_, inl, inr, _↔_}
+use native.Mathlib.Omega.{arith}
+use borrow.Author.Tests.{eq-eqb, eqb-true}
+use lib.ListN.{length}
+use lib.Dec.{eqb}
+use Rattle.settings.specs.declared.Settings.{Settings}
+use Rattle.settings.specs.Units.{unitRefusal}
+use Rattle.tree.specs.Rows.{tableBytes}
+use Rattle.tree.specs.Tree.{flagsOf, rowsOf}
+use Rattle.laws.proofs.Tests.{never}
+use Rattle.laws.proofs.Depths.{rows-small}
+use Rattle.laws.proofs.Turning.{TurningIsTree, turning-is-tree}
+use Rattle.unit.specs.declared.Answer.the-variants.{Accepted}
+use Rattle.unit.specs.Answers.{numberOf, refused, deliver}
+use Rattle.unit.specs.Luma.{kindOf, rootAt}
+use Rattle.unit.specs.Writer.{writeTree, writeRows, writeFlags}
+use Rattle.unit.specs.Exactly.{UnitTree, OneOf, Bytes, TurnsExactly}
+use Rattle.unit.proofs.Roots.{root-of}
+use Rattle.unit.proofs.Accepts.{delivered, deliver-number, met-none}
+use Rattle.unit.proofs.Parsed.{rowsIn, table-length, small-back, bytes-back}
+use Rattle.unit.proofs.TreeTurning.{RowsTurned, tree-turned, turned-or-refused}
+
+-- bytes of a tree's rows, or refused
+abbrev Turned : Settings → ℕ → List ℕ → Type 0
+Turned s a bytes = ((t : UnitTree s a) × (tableBytes (rowsOf t) ≡ bytes)) ⊎ ((buffer : List ℕ) → writeFlags s a bytes buffer ≡ refused 16 0 buffer)
+
+not-16 : {n : ℕ} → OneOf n (0 ∷ 17 ∷ []) → ¬ (n ≡ 16)
+not-16 (inl e) f = omega arith
+not-16 (inr (inl e)) f = omega arith
+
+module _ (s : Settings) (a : ℕ) (h : unitRefusal s a ≡ 0) where
+  unit-turning : TurningIsTree (kindOf s) (rootAt s a)
+  unit-turning = let r = root-of s a h in turning-is-tree (kindOf s) (r .valid) (r .good) (r .here) (r .fits)
+
+  unit-rows : (bytes buffer : List ℕ) → writeFlags s a bytes buffer ≡ writeRows (kindOf s) (rootAt s a) bytes buffer
+  unfolding writeFlags
+  unit-rows bytes buffer = rw (eq-eqb (unitRefusal s a) 0 h)
+
+  -- whole rows
+  unit-tree : (bytes buffer : List ℕ) → length bytes % 8 ≡ 0 → writeFlags s a bytes buffer ≡ writeTree (kindOf s) (rootAt s a) (rowsIn bytes) buffer
+  unfolding writeRows
+  unit-tree bytes buffer e = unit-rows bytes buffer ∙ rw (eq-eqb (length bytes % 8) 0 e)
+
+  -- the bytes of a tree's rows say these rows
+  rows-said : (t : UnitTree s a) → rowsIn (tableBytes (rowsOf t)) ≡ rowsOf t
+  rows-said t =
+      let r = root-of s a h in
+      let b = r .valid .leastCb in
+      let q = r .valid .leQt in
+      small-back (rows-small (kindOf s) b (omega arith) (r .picture) (r .good .shape) (r .fits) t)
+
+  turns : (t : UnitTree s a) (buffer : List ℕ) → writeFlags s a (tableBytes (rowsOf t)) buffer ≡ deliver 17 (length (flagsOf t)) (flagsOf t) buffer
+  turns t buffer =
+      let e = table-length (rowsOf t) in
+      unit-tree (tableBytes (rowsOf t)) buffer (omega arith) ∙ rw (rows-said t) (tree-turned unit-turning t buffer)
+
+  module _ (bytes : List ℕ) (small : Bytes bytes) where
+    turned : length bytes % 8 ≡ 0 → Turned s a bytes
+    turned e = go (turned-or-refused unit-turning (rowsIn bytes))
+      where
+        go : RowsTurned (kindOf s) (rootAt s a) (rowsIn bytes) → Turned s a bytes
+        go (inl t) = inl (t .0, ap tableBytes (t .1) ∙ bytes-back bytes small e)
+        go (inr f) = inr (λ buffer. unit-tree bytes buffer e ∙ f buffer)
+
+    module _ (buffer : List ℕ) where
+      as-tree : (t : UnitTree s a) → tableBytes (rowsOf t) ≡ bytes → writeFlags s a bytes buffer ≡ deliver 17 (length (flagsOf t)) (flagsOf t) buffer
+      as-tree t e = rw (← e) (turns t buffer)
+
+      whole : {m : ℕ} → writeFlags s a bytes buffer .answer ≡ Accepted m → length bytes % 8 ≡ 0
+      unfolding writeRows
+      whole e = eqb-true (length bytes % 8) 0 (met-none (eqb (length bytes % 8) 0) _ _ _ _ (rw (unit-rows bytes buffer) at e))
+
+      only : (m : ℕ) → writeFlags s a bytes buffer .answer ≡ Accepted m → (t : UnitTree s a) × (tableBytes (rowsOf t) ≡ bytes) × (length (flagsOf t) ≡ m)
+      only m e = go (turned (whole e))
+        where
+          go : Turned s a bytes → (t : UnitTree s a) × (tableBytes (rowsOf t) ≡ bytes) × (length (flagsOf t) ≡ m)
+          go (inl t) = (t .0, t .1, delivered 17 _ _ buffer (rw (as-tree (t .0) (t .1)) at e) .0)
+          go (inr f) = let g = f buffer in never (cc)
+
+      no-tree : length bytes % 8 ≡ 0 → (numberOf (writeFlags s a bytes buffer .answer) ≡ 16) ↔ ((t : UnitTree s a) → ¬ (tableBytes (rowsOf t) ≡ bytes))
+      no-tree e = (λ n t f. not-16 (deliver-number 17 _ _ buffer) (rw (as-tree t f) at n), λ none. go none (turned e))
+        where
+          go : ((t : UnitTree s a) → ¬ (tableBytes (rowsOf t) ≡ bytes)) → Turned s a bytes → numberOf (writeFlags s a bytes buffer .answer) ≡ 16
+          go none (inl t) = absurd (none (t .0) (t .1))
+          go none (inr f) = rw (f buffer)
+
+  pub turns-exactly : TurnsExactly s a
+  turns-exactly = record {
+    turns = turns;
+    only = only;
+    refused = λ bytes small e buffer. no-tree bytes small buffer e;
+    unique = λ t u e. unit-turning .rows-unique t u (sym (rows-said t) ∙ ap rowsIn e ∙ rows-said u);
+  }

@@ -1,0 +1,46 @@
+-- What reading a unit and turning its rows back mean, by its coding trees.
+use Prim.Native.Nat.{ℕ, _%_, _<_}
+use mathlib.Core.Path.{_≡_}
+use mathlib.Core.List.{List, [], _∷_}
+use mathlib.Core.Logic.{_⊎_, _↔_}
+use lib.ListN.{length}
+use Rattle.settings.specs.declared.Settings.{Settings}
+use Rattle.tree.specs.Rows.{tableBytes}
+use Rattle.tree.specs.Tree.{Tree, flagsOf, rowsOf}
+use Rattle.unit.specs.declared.Answer.the-variants.{Accepted}
+use Rattle.unit.specs.Answers.{numberOf, deliver}
+use Rattle.unit.specs.Luma.{kindOf, rootAt}
+use Rattle.unit.specs.Reader.{readUnit}
+use Rattle.unit.specs.Writer.{writeFlags}
+
+-- the coding trees of a unit
+abbrev pub UnitTree : Settings → ℕ → Type 0
+UnitTree s a = Tree (kindOf s) (rootAt s a)
+
+-- a number is one of a list
+abbrev pub OneOf : ℕ → List ℕ → Type 0
+OneOf n [] = ⊥
+OneOf n (m ∷ ms) = (n ≡ m) ⊎ OneOf n ms
+
+-- every number of a list is a byte
+abbrev pub Bytes : List ℕ → Type 0
+Bytes [] = Unit {0}
+Bytes (b ∷ bs) = (b < 256) × Bytes bs
+
+-- A unit that refusals 1 to 10 leave is read exactly so: the flags of a coding tree give the rows of this tree, no other flags are accepted, flags say one tree at
+-- most, and what is not accepted is refused with 11 to 14.
+pub record ReadsExactly (s : Settings) (a : ℕ) : Type 0 where
+  pub reads : (t : UnitTree s a) (buffer : List ℕ) → readUnit s a (flagsOf t) buffer ≡ deliver 14 (length (rowsOf t)) (tableBytes (rowsOf t)) buffer
+  pub only : (flags buffer : List ℕ) (m : ℕ) → readUnit s a flags buffer .answer ≡ Accepted m → (t : UnitTree s a) × (flagsOf t ≡ flags)
+  pub unique : (t u : UnitTree s a) → flagsOf t ≡ flagsOf u → t ≡ u
+  pub refused : (flags buffer : List ℕ) → OneOf (numberOf (readUnit s a flags buffer .answer)) (0 ∷ 11 ∷ 12 ∷ 13 ∷ 14 ∷ [])
+
+-- Its rows are turned back exactly so: the bytes of a tree's rows give its flags, no other bytes are accepted, whole rows are refused with 16 exactly
+-- where no tree has them, and rows belong to one tree at most.
+pub record TurnsExactly (s : Settings) (a : ℕ) : Type 0 where
+  pub turns : (t : UnitTree s a) (buffer : List ℕ) → writeFlags s a (tableBytes (rowsOf t)) buffer ≡ deliver 17 (length (flagsOf t)) (flagsOf t) buffer
+  pub only : (bytes : List ℕ) → Bytes bytes → (buffer : List ℕ) (m : ℕ) → writeFlags s a bytes buffer .answer ≡ Accepted m
+      → (t : UnitTree s a) × (tableBytes (rowsOf t) ≡ bytes) × (length (flagsOf t) ≡ m)
+  pub refused : (bytes : List ℕ) → Bytes bytes → length bytes % 8 ≡ 0 → (buffer : List ℕ)
+      → (numberOf (writeFlags s a bytes buffer .answer) ≡ 16) ↔ ((t : UnitTree s a) → ¬ (tableBytes (rowsOf t) ≡ bytes))
+  pub unique : (t u : UnitTree s a) → tableBytes (rowsOf t) ≡ tableBytes (rowsOf u) → t ≡ u
