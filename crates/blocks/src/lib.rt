@@ -3,5 +3,6 @@ mod parts;
 mod rows;
 
 pub use parts::part_at;
+pub use parts::share_at;
 pub use rows::put_row;
 pub use rows::row_word;

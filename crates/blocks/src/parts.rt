@@ -108,7 +108,7 @@ fn ternary_share(d: Direction, i: u32) -> Share
 }
 
 // The share of a decision's part; an empty one where it has no such part.
-fn share_at(d: Decision, i: u32) -> Share
+pub fn share_at(d: Decision, i: u32) -> Share
     ensures { λ r. ⌜ r ≡ shareAt d i ⌝ }
 {
     match d {

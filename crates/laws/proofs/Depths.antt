@@ -31,7 +31,7 @@ record Shallow (n : Node) : Type 0 where
   shape : Shape n
   sum : n .w + n .h + n .qt + n .mtt ≤ 256
 
-one-deeper : (l : Limits) (n : Node) (d : Decision) (p : Share) → child l n d p .qt + child l n d p .mtt ≤ n .qt + n .mtt + 1
+pub one-deeper : (l : Limits) (n : Node) (d : Decision) (p : Share) → child l n d p .qt + child l n d p .mtt ≤ n .qt + n .mtt + 1
 unfolding child childQt childMtt
 one-deeper l n Leaf p = omega arith
 one-deeper l n Quad p = omega arith

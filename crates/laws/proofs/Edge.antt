@@ -217,7 +217,7 @@ module _ {l : Limits} (v : Valid l) {n : Node} (g : Good l n) where
   child-cut (Binary d) ok piece out e = child-edge d (binary-open l n d ok) out piece
   child-cut (Ternary d) ok piece out e = clash (ternary-open l n d ok .within) out
 
-  good-child : (d : Decision) → allows (rightsOf (luma l) n) d ≡ true → (p : Share) → Piece d p → Good l (child l n d p)
+  pub good-child : (d : Decision) → allows (rightsOf (luma l) n) d ≡ true → (p : Share) → Piece d p → Good l (child l n d p)
   unfolding child
   good-child d ok p piece =
       let a = v .leastCb in

@@ -1,4 +1,6 @@
+pub mod Areas
 pub mod Backs
+pub mod Bounds
 pub mod Bytes
 pub mod Cells
 pub mod Cover
@@ -19,6 +21,7 @@ pub mod Levels
 pub mod Marks
 pub mod Measure
 pub mod Multiples
+pub mod Near
 pub mod Opens
 pub mod Order
 pub mod Parts
@@ -33,6 +36,7 @@ pub mod SameRow
 pub mod Shape
 pub mod Sizes
 pub mod Slabs
+pub mod Steps
 pub mod Stops
 pub mod Tables
 pub mod Tests

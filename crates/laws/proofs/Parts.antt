@@ -52,7 +52,7 @@ least (Ternary d) e = cutLeast 1 d e
 pub record Slice (small start long : ℕ) : Type 0 where
   some : 0 < small
   smallNot : ¬ (small ≡ 3)
-  longNot : ¬ (long ≡ 3)
+  pub longNot : ¬ (long ≡ 3)
   step : start % small ≡ 0
   pub enough : small ≤ long
   pub fits : start + long ≤ 4
@@ -69,11 +69,11 @@ pub no-piece : {A : Type 0} {p : Share} → Piece Leaf p → A
 no-piece piece = absurd (omega arith)
 
 -- every share of a decision is such a part
-abbrev Pieces : Decision → List Share → Type 0
+abbrev pub Pieces : Decision → List Share → Type 0
 Pieces d [] = Unit {0}
 Pieces d (p ∷ ps) = Piece d p × Pieces d ps
 
-pieces : (d : Decision) → Pieces d (shares d)
+pub pieces : (d : Decision) → Pieces d (shares d)
 unfolding shares
 pieces Leaf = tt
 pieces Quad = (omega arith, omega arith)

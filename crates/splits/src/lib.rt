@@ -18,6 +18,7 @@ ghost use Rattle.tree.specs.Splits.{rightOut, bottomOut, isOut, sameDirection, 
 ghost use Rattle.tree.specs.Splits.{binaryNeeds, binaryClosed, binaryOpen};
 ghost use Rattle.tree.specs.Splits.{closedMiddle, ternaryOpen, rightsOf, openSplits};
 ghost use Rattle.tree.specs.Children as Children;
+ghost use Rattle.tree.specs.Children.{cornerInside};
 
 // One of two numbers, and one of two tests, by direction.
 fn pick(d: Direction, a: u32, b: u32) -> u32
@@ -55,6 +56,13 @@ pub fn out(l: Limits, n: Node) -> bool
     ensures { λ r. ⌜ r ≡ isOut l n ⌝ }
 {
     right_out(l, n) | bottom_out(l, n)
+}
+
+// Whether a node's corner is inside the picture; one whose corner is not is skipped.
+pub fn starts_inside(l: Limits, n: Node) -> bool
+    ensures { λ r. ⌜ r ≡ cornerInside l n ⌝ }
+{
+    (n.x < l.width) & (n.y < l.height)
 }
 
 // What a binary cut adds to the offset F of its parts: 1 where the node is out in the dimension that it divides.
@@ -142,7 +150,7 @@ fn ternary_open(l: Limits, n: Node, d: Direction) -> bool
 }
 
 // A mask where a test holds, else 0.
-fn bit(b: bool, mask: u32) -> u32
+pub fn bit(b: bool, mask: u32) -> u32
     ensures { λ r. ⌜ (r ≡ Splits.bit b mask) × (r ≤ mask) ⌝ }
 {
     if b { mask } else { 0 }

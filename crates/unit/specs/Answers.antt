@@ -1,5 +1,6 @@
 -- Answers: document 01's numbers and values, and what a call leaves in the buffer that it was lent.
 use Prim.Native.Nat.{ℕ}
+use mathlib.Core.Path.{_≡_}
 use mathlib.Core.Bool.{cond}
 use mathlib.Core.List.{List, _++_}
 use lib.ListN.{length, drop}
@@ -22,6 +23,11 @@ valueOf (Refused number place) = place
 pub record Outcome : Type 0 where
   pub answer : Answer
   pub buffer : List ℕ
+
+-- a function's answer and the buffer that it leaves are those of an outcome
+pub record Meets (o : Outcome) (said : Answer) (left : List ℕ) : Type 0 where
+  pub answers : said ≡ o .answer
+  pub leaves : left ≡ o .buffer
 
 -- "Buffers and session stay untouched"
 abbrev pub refused : ℕ → ℕ → List ℕ → Outcome

@@ -1,0 +1,102 @@
+-- The row number of a child: its parent's, and the step to the part.
+use Prim.Native.Nat.{ℕ, _+_, _-_, _*_, _/_, _%_, _<_, _≤_}
+use mathlib.Core.Path.{_≡_, refl, _∙_}
+use mathlib.Core.Bool.{Bool, true, false, cond}
+use lib.Dec.{eqb}
+use native.Mathlib.Omega.{arith}
+use Rattle.sides.specs.Side.{exponent}
+use Rattle.tree.specs.declared.Limits.{Limits}
+use Rattle.tree.specs.declared.Node.{Node}
+use Rattle.tree.specs.declared.Share.{Share}
+use Rattle.tree.specs.declared.Decision.{Decision}
+use Rattle.tree.specs.declared.Decision.the-variants.{Leaf, Quad, Binary, Ternary}
+use Rattle.tree.specs.declared.Direction.the-variants.{Horizontal, Vertical}
+use Rattle.tree.specs.Children.{childQt, childMtt, child}
+use Rattle.tree.specs.Rows.{rowOf}
+use Rattle.blocks.specs.Table.{shareAt}
+use Rattle.blocks.specs.Words.{rowWord}
+use Rattle.laws.proofs.Parts.{Piece, no-piece, slice}
+use Rattle.nodes.specs.Words.{nodeIn, fall, stepTo, childRow}
+use Rattle.nodes.specs.Stands.{Stands, word}
+use Rattle.nodes.proofs.Sides.{one-least, exponent-of, exponent-falls}
+use Rattle.nodes.proofs.RowFields.{packed, Fits, row-packed, fits, width-says, height-says}
+
+-- ---- six numbers in one, and a step
+
+-- a step to a part: its start is within 16 bits, and its exponents are less by their falls
+record Step (x y a b left top f g a′ b′ : ℕ) : Type 0 where
+  x-fits : x + left < 65536
+  y-fits : y + top < 65536
+  a-fits : a < 8
+  b-fits : b < 8
+  f-small : f ≤ 2
+  g-small : g ≤ 2
+  a-falls : a′ + f ≡ a
+  b-falls : b′ + g ≡ b
+
+module _ {x y a b left top f g a′ b′ : ℕ} (s : Step x y a b left top f g a′ b′) (q m : ℕ) where
+  cut-packed : q < 256 → m + 1 < 256
+      → (packed x y a b q m + (72057594037927936 + left + top * 65536 - (f * 4294967296 + g * 1099511627776))) % 18446744073709551616 ≡ packed (x + left) (y + top) a′ b′ q (m + 1)
+  cut-packed hq hm = omega (arith, s)
+
+  quad-packed : q + 1 < 256 → m < 256
+      → packed x y a b q m % 72057594037927936 + (281474976710656 + left + top * 65536 - (f * 4294967296 + g * 1099511627776)) ≡ packed (x + left) (y + top) a′ b′ (q + 1) 0
+  quad-packed hq hm = omega (arith, s)
+
+-- ---- a part
+
+fall-small : (q : ℕ) → fall q ≤ 2
+fall-small q = go (eqb q 1) (eqb q 2)
+  where
+    go : (a b : Bool) → cond a 2 (cond b 1 0) ≤ 2
+    go true b = omega arith
+    go false true = omega arith
+    go false false = omega arith
+
+module _ {l : Limits} {n : Node} {row kept : ℕ} (s : Stands l n (word row kept)) {d : Decision} {p : Share} (piece : Piece d p) (c : Fits (child l n d p)) where
+  part-step : Step (n .x) (n .y) (exponent (n .w)) (exponent (n .h)) (n .w / 4 * p .left) (n .h / 4 * p .top) (fall (p .wide)) (fall (p .high)) (exponent (n .w / 4 * p .wide)) (exponent (n .h / 4 * p .high))
+  unfolding child
+  part-step =
+      let f = fits s in
+      let v = slice piece Vertical in
+      let h = slice piece Horizontal in
+      let vf = v .fits in
+      let hf = h .fits in
+      record {
+        x-fits = c .x-fits;
+        y-fits = c .y-fits;
+        a-fits = exponent-of (f .wide) .small;
+        b-fits = exponent-of (f .high) .small;
+        f-small = fall-small (p .wide);
+        g-small = fall-small (p .high);
+        a-falls = exponent-falls (f .wide) (p .wide) (one-least (c .wide)) (omega arith) (v .longNot);
+        b-falls = exponent-falls (f .high) (p .high) (one-least (c .high)) (omega arith) (h .longNot);
+      }
+
+  -- the step as the node says it
+  step-is : (deeper : ℕ) → stepTo row deeper p ≡ deeper + n .w / 4 * p .left + n .h / 4 * p .top * 65536 - (fall (p .wide) * 4294967296 + fall (p .high) * 1099511627776)
+  unfolding nodeIn
+  step-is deeper = rw (width-says s, height-says s)
+
+  row-is : row ≡ packed (n .x) (n .y) (exponent (n .w)) (exponent (n .h)) (n .qt) (n .mtt)
+  row-is = s .row ∙ row-packed (fits s)
+
+  cut-row : child l n d p .qt ≡ n .qt → child l n d p .mtt ≡ n .mtt + 1 → (row + stepTo row 72057594037927936 p) % 18446744073709551616 ≡ rowWord (rowOf (child l n d p))
+  unfolding child
+  cut-row eq em =
+      let hm = c .mtt-fits in
+      rw (step-is 72057594037927936, row-packed c, eq, em, row-is) (cut-packed part-step (n .qt) (n .mtt) (fits s .qt-fits) (omega arith))
+
+  quad-row : child l n d p .qt ≡ n .qt + 1 → child l n d p .mtt ≡ 0 → row % 72057594037927936 + stepTo row 281474976710656 p ≡ rowWord (rowOf (child l n d p))
+  unfolding child
+  quad-row eq em =
+      let hq = c .qt-fits in
+      rw (step-is 281474976710656, row-packed c, eq, em, row-is) (quad-packed part-step (n .qt) (n .mtt) (omega arith) (fits s .mtt-fits))
+
+pub child-row : {l : Limits} {n : Node} {row kept : ℕ} → Stands l n (word row kept) → (d : Decision) (i : ℕ) → Piece d (shareAt d i) → Fits (child l n d (shareAt d i))
+    → childRow row d i ≡ rowWord (rowOf (child l n d (shareAt d i)))
+unfolding childRow child childQt childMtt
+child-row s Leaf i piece c = no-piece piece
+child-row s Quad i piece c = quad-row s piece c refl refl
+child-row s (Binary d) i piece c = cut-row s piece c refl refl
+child-row s (Ternary d) i piece c = cut-row s piece c refl refl

@@ -1,0 +1,10 @@
+pub mod Bounds
+pub mod Sides
+pub mod MaskLaws
+pub mod RowFields
+pub mod ChildRows
+pub mod Kept
+pub mod Rules
+pub mod SideRules
+pub mod Seen
+pub mod Stands

@@ -1,0 +1,47 @@
+// A node in the picture: whether it is skipped, whether it is out, and its open splits.
+use crate::fields::height_exponent;
+use crate::fields::limits_of;
+use crate::fields::node_of;
+use crate::fields::width_exponent;
+ghost use mathlib.Core.Path.{_≡_};
+ghost use Rattle.nodes.specs.Words.{mayReachPast, skips, reachesOut, openIn};
+
+// Whether a node may reach past the picture: a root, and a child of a node that is out.
+fn may_reach_past(kept: u32) -> bool
+    ensures { λ r. ⌜ r ≡ mayReachPast kept ⌝ }
+{
+    kept & 32 != 0
+}
+
+// Whether a node is skipped, since its corner is outside the picture.
+pub fn skipped(u: &[u32; 20], row: u64, kept: u32) -> bool
+    ensures { λ r. ⌜ r ≡ skips (now (u .entry)) row kept ⌝ }
+{
+    if may_reach_past(kept) {
+        !splits::starts_inside(limits_of(u), node_of(row, kept))
+    } else {
+        false
+    }
+}
+
+// Whether a node is out of the picture, at the right or at the bottom.
+pub fn out(u: &[u32; 20], row: u64, kept: u32) -> bool
+    ensures { λ r. ⌜ r ≡ reachesOut (now (u .entry)) row kept ⌝ }
+{
+    if may_reach_past(kept) {
+        splits::out(limits_of(u), node_of(row, kept))
+    } else {
+        false
+    }
+}
+
+// The open splits of a node: by the rules where it may reach past the picture, else by the masks of its sides.
+pub fn open_splits(u: &[u32; 20], row: u64, kept: u32) -> u32
+    ensures { λ r. ⌜ r ≡ openIn (now (u .entry)) row kept ⌝ }
+{
+    if may_reach_past(kept) {
+        kept & splits::open_splits(limits_of(u), node_of(row, kept))
+    } else {
+        kept & u[6 + width_exponent(row) as usize] & u[12 + height_exponent(row) as usize]
+    }
+}

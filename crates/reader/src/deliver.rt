@@ -1,0 +1,86 @@
+// The end of a reading: refusals 13 and 14, or its rows in the lent buffer. Nothing is written before both are passed.
+use crate::state::Child;
+use crate::state::count;
+use crate::state::place;
+use crate::state::refusal_number;
+use crate::state::refusal_place;
+use crate::state::taken_apart;
+use tree::Node;
+use unit::Answer;
+ghost use mathlib.Core.Path.{_≡_};
+ghost use mathlib.Core.List.{_++_};
+ghost use Prim.Native.Nat.{ℕ, _*_, _≤_, _<_};
+ghost use lib.ListN.{length, take, drop};
+ghost use Rattle.unit.specs.Answers.{Meets};
+ghost use Rattle.reader.specs.Walking.{countOf};
+ghost use Rattle.reader.specs.Delivery.{leafFirst, leafFlags, deliverOne, deliverAll};
+
+// The first n bytes of a table, over the first n of a buffer.
+fn copy(rows: &mut [u8], from: &[u8], n: usize)
+    requires { ⌜ (n ≤ length (now rows)) × (n ≤ length (now from)) ⌝ }
+    ensures { λ _. ⌜ now (rows .exit) ≡ take n (now (from .entry)) ++ drop n (now (rows .entry)) ⌝ }
+{
+    let mut i = 0;
+    while i < n {
+        rows[i] = from[i];
+        i += 1;
+    }
+}
+
+// Whether the first flag, or the lack of an open split, makes a root a leaf.
+pub fn is_leaf(out: bool, splits: u32, flags: &[u8]) -> bool
+    ensures { λ r. ⌜ r ≡ leafFirst out splits (now (flags .entry)) ⌝ }
+{
+    if out {
+        return false;
+    }
+    if splits == 0 {
+        return true;
+    }
+    if 0 < flags.len() {
+        flags[0] == 0
+    } else {
+        false
+    }
+}
+
+// The flags that a leaf has, 1 where some split is open.
+pub fn leaf_flags(splits: u32) -> usize
+    ensures { λ r. ⌜ r ≡ leafFlags splits ⌝ }
+{
+    if splits == 0 { 0 } else { 1 }
+}
+
+// The reading of a root that is a leaf, its flags ending before a place.
+pub fn one_row(root: Node, next: usize, flags: &[u8], rows: &mut [u8]) -> Answer
+    ensures { λ r. ⌜ Meets (deliverOne root next (now (flags .entry)) (now (rows .entry))) r (now (rows .exit)) ⌝ }
+{
+    if next < flags.len() {
+        return Answer::Refused(13, next);
+    }
+    if blocks::put_row(rows, 0, blocks::row_word(root)) {
+        Answer::Accepted(1)
+    } else {
+        Answer::Refused(14, 1)
+    }
+}
+
+// The reading that a walk answered, its rows in a scratch table.
+pub fn all_rows(answer: u64, scratch: &[u8; 8192], flags: &[u8], rows: &mut [u8]) -> Answer
+    requires { ⌜ (answer < 9223372036854775808 → countOf answer ≤ 1024) ⌝ }
+    ensures { λ r. ⌜ Meets (deliverAll answer (now (scratch .entry)) (now (flags .entry)) (now (rows .entry))) r (now (rows .exit)) ⌝ }
+{
+    let Child::Read(end) = taken_apart(answer) else {
+        return Answer::Refused(refusal_number(answer), refusal_place(answer));
+    };
+    let at = place(end);
+    if at < flags.len() {
+        return Answer::Refused(13, at);
+    }
+    let n = count(end);
+    if rows.len() < n * 8 {
+        return Answer::Refused(14, n);
+    }
+    copy(rows, scratch, n * 8);
+    Answer::Accepted(n)
+}

@@ -1,0 +1,237 @@
+// The walk of a node and the walk of its children call each other: flags become rows in a scratch table.
+// A node is its two numbers (crate nodes); the children of each kind of split are written out.
+use crate::state::Child;
+use crate::state::count;
+use crate::state::earlier;
+use crate::state::going;
+use crate::state::place;
+use crate::state::stopping;
+use crate::state::taken_apart;
+use tree::Choice;
+use tree::Decision;
+use tree::Direction;
+ghost use mathlib.Core.Path.{_≡_};
+ghost use mathlib.Core.List.{[], _∷_};
+ghost use Prim.Native.Nat.{ℕ, _≤_, _<_};
+ghost use Rattle.nodes.specs.Words.{childRow};
+ghost use Rattle.nodes.specs.Stands.{word, fourWords, twoWords, threeWords, kidWords};
+ghost use Rattle.reader.specs.Walking.{Asked, Walked};
+
+// Reads a node. A node whose corner is outside the picture is skipped.
+pub fn node_walk(
+    u: &[u32; 20],
+    flags: &[u8],
+    rows: &mut [u8; 8192],
+    c: u64,
+    row: u64,
+    kept: u32,
+) -> u64
+    requires { ⌜ Asked (now u) c (word row kept ∷ []) ⌝ }
+    ensures { λ r. ⌜ Walked (now (u .entry)) (now (flags .entry)) c (word row kept ∷ []) (now (rows .entry)) r (now (rows .exit)) ⌝ }
+{
+    if nodes::skipped(u, row, kept) {
+        return c;
+    }
+    let out = nodes::out(u, row, kept);
+    let end = flags.len();
+    match flags::decide(flags, place(c), out, nodes::open_splits(u, row, kept)) {
+        Choice::Refused(number, at) => stopping(number, earlier(at, end)),
+        Choice::Chosen(decision, next) => match decision {
+            Decision::Leaf => {
+                blocks::put_row(rows, count(c) * 8, row);
+                going(next, count(c) + 1)
+            }
+            _ => children_walk(
+                u,
+                flags,
+                rows,
+                going(next, count(c)),
+                row,
+                kept,
+                out,
+                decision,
+            ),
+        },
+    }
+}
+
+// Reads the children of a decision, in coding order.
+pub fn children_walk(
+    u: &[u32; 20],
+    flags: &[u8],
+    rows: &mut [u8; 8192],
+    c: u64,
+    row: u64,
+    kept: u32,
+    out: bool,
+    d: Decision,
+) -> u64
+    requires { ⌜ Asked (now u) c (kidWords (now u) row kept out d) ⌝ }
+    ensures { λ r. ⌜ Walked (now (u .entry)) (now (flags .entry)) c (kidWords (now (u .entry)) row kept out d) (now (rows .entry)) r (now (rows .exit)) ⌝ }
+{
+    match d {
+        Decision::Leaf => c,
+        Decision::Quad => four_walk(
+            u,
+            flags,
+            rows,
+            c,
+            row,
+            nodes::kept_under(u, row, kept, out, d, 0),
+        ),
+        Decision::Binary(v) => two_walk(
+            u,
+            flags,
+            rows,
+            c,
+            row,
+            v,
+            nodes::kept_under(u, row, kept, out, d, 0),
+        ),
+        Decision::Ternary(v) => three_walk(
+            u,
+            flags,
+            rows,
+            c,
+            row,
+            v,
+            nodes::kept_under(u, row, kept, out, d, 0),
+            nodes::kept_under(u, row, kept, out, d, 1),
+        ),
+    }
+}
+
+// The four children of a quad split.
+pub fn four_walk(
+    u: &[u32; 20],
+    flags: &[u8],
+    rows: &mut [u8; 8192],
+    c: u64,
+    row: u64,
+    kept: u32,
+) -> u64
+    requires { ⌜ Asked (now u) c (fourWords row kept) ⌝ }
+    ensures { λ r. ⌜ Walked (now (u .entry)) (now (flags .entry)) c (fourWords row kept) (now (rows .entry)) r (now (rows .exit)) ⌝ }
+{
+    let first = node_walk(
+        u,
+        flags,
+        rows,
+        c,
+        nodes::child_row(row, Decision::Quad, 0),
+        kept,
+    );
+    let Child::Read(c1) = taken_apart(first) else {
+        return first;
+    };
+    let second = node_walk(
+        u,
+        flags,
+        rows,
+        c1,
+        nodes::child_row(row, Decision::Quad, 1),
+        kept,
+    );
+    let Child::Read(c2) = taken_apart(second) else {
+        return second;
+    };
+    let third = node_walk(
+        u,
+        flags,
+        rows,
+        c2,
+        nodes::child_row(row, Decision::Quad, 2),
+        kept,
+    );
+    let Child::Read(c3) = taken_apart(third) else {
+        return third;
+    };
+    node_walk(
+        u,
+        flags,
+        rows,
+        c3,
+        nodes::child_row(row, Decision::Quad, 3),
+        kept,
+    )
+}
+
+// The two parts of a binary split.
+pub fn two_walk(
+    u: &[u32; 20],
+    flags: &[u8],
+    rows: &mut [u8; 8192],
+    c: u64,
+    row: u64,
+    d: Direction,
+    kept: u32,
+) -> u64
+    requires { ⌜ Asked (now u) c (twoWords row d kept) ⌝ }
+    ensures { λ r. ⌜ Walked (now (u .entry)) (now (flags .entry)) c (twoWords row d kept) (now (rows .entry)) r (now (rows .exit)) ⌝ }
+{
+    let first = node_walk(
+        u,
+        flags,
+        rows,
+        c,
+        nodes::child_row(row, Decision::Binary(d), 0),
+        kept,
+    );
+    let Child::Read(c1) = taken_apart(first) else {
+        return first;
+    };
+    node_walk(
+        u,
+        flags,
+        rows,
+        c1,
+        nodes::child_row(row, Decision::Binary(d), 1),
+        kept,
+    )
+}
+
+// The three parts of a ternary split; the middle one keeps less.
+pub fn three_walk(
+    u: &[u32; 20],
+    flags: &[u8],
+    rows: &mut [u8; 8192],
+    c: u64,
+    row: u64,
+    d: Direction,
+    kept: u32,
+    middle: u32,
+) -> u64
+    requires { ⌜ Asked (now u) c (threeWords row d kept middle) ⌝ }
+    ensures { λ r. ⌜ Walked (now (u .entry)) (now (flags .entry)) c (threeWords row d kept middle) (now (rows .entry)) r (now (rows .exit)) ⌝ }
+{
+    let first = node_walk(
+        u,
+        flags,
+        rows,
+        c,
+        nodes::child_row(row, Decision::Ternary(d), 0),
+        kept,
+    );
+    let Child::Read(c1) = taken_apart(first) else {
+        return first;
+    };
+    let second = node_walk(
+        u,
+        flags,
+        rows,
+        c1,
+        nodes::child_row(row, Decision::Ternary(d), 1),
+        middle,
+    );
+    let Child::Read(c2) = taken_apart(second) else {
+        return second;
+    };
+    node_walk(
+        u,
+        flags,
+        rows,
+        c2,
+        nodes::child_row(row, Decision::Ternary(d), 2),
+        kept,
+    )
+}
