@@ -1,15 +1,14 @@
-// Runs document 01's cases on the proved functions, and prints P2's table. The expected output, `stdout`, is written
-// from the paper.
+// Runs document 01's cases on the proved functions, and prints the tables that they give. The expected output, `stdout`,
+// is written from the paper.
 use libc::STDOUT_FILENO;
 use settings::Count;
 use settings::Located;
 use settings::Settings;
-use tree::Choice;
-use tree::Decision;
-use tree::Node;
+use unit::Answer;
 ghost use mathlib.Core.Path.{_≡_};
+ghost use Prim.Native.Nat.{_+_, _≤_, _<_, min};
+ghost use Rattle.unit.specs.Cases as Cases;
 ghost use Rattle.unit.specs.Cases.{settingA as Cases·settingA};
-ghost use Rattle.unit.specs.Luma.{rootOf};
 
 // Setting A of document 01, at a width.
 fn setting_a(width: u32) -> Settings
@@ -83,90 +82,161 @@ fn say_units() {
     end_line();
 }
 
-// The root of unit 0 at setting A.
-fn root_a() -> Node
-    ensures { λ r. ⌜ r ≡ rootOf (record { x = 0; y = 0; side = 64 }) ⌝ }
+fn wide(x: u8) -> u64
+    ensures { λ r. ⌜ (r ≡ x) × (r < 256) ⌝ }
 {
-    unit::root(settings::Square {
-        x: 0,
-        y: 0,
-        side: 64,
-    })
+    x as u64
 }
 
-fn say_decision(text: &[u8], bytes: &[u8]) {
+// A number of a row, of 8 bits and of 16.
+fn byte(rows: &[u8; 64], at: usize) -> u64
+    ensures { λ r. ⌜ r < 256 ⌝ }
+{
+    if at < 64 { wide(rows[at]) } else { 0 }
+}
+
+fn two_bytes(rows: &[u8; 64], at: usize) -> u64
+    requires { ⌜ at < 64 ⌝ }
+    ensures { λ r. ⌜ r < 65536 ⌝ }
+{
+    byte(rows, at) + byte(rows, at + 1) * 256
+}
+
+// A row in decimals: X, Y, exponents, depths.
+fn say_row(rows: &[u8; 64], at: usize)
+    requires { ⌜ at + 8 ≤ 64 ⌝ }
+{
+    say(b"  (", two_bytes(rows, at));
+    say(b", ", two_bytes(rows, at + 2));
+    say(b", ", byte(rows, at + 4));
+    say(b", ", byte(rows, at + 5));
+    say(b", ", byte(rows, at + 6));
+    say(b", ", byte(rows, at + 7));
+    io::write_all(STDOUT_FILENO, b")\n");
+}
+
+// The rows that a reading answered: 8 at most.
+fn say_rows(rows: &[u8; 64], count: usize) {
+    for i in 0..8 {
+        if i < count {
+            say_row(rows, i * 8);
+        }
+    }
+}
+
+fn within(room: usize) -> usize
+    ensures { λ r. ⌜ (r ≡ min room 64) × (r ≤ 64) ⌝ }
+{
+    if room < 64 { room } else { 64 }
+}
+
+// Reads a unit into a buffer of so many bytes, 64 at most, and prints the answer, and the rows of an accepted unit.
+fn say_reading(text: &[u8], s: Settings, address: usize, flags: &[u8], room: usize) {
     io::write_all(STDOUT_FILENO, text);
-    let l = unit::limits(setting_a(64));
-    let n = root_a();
-    match flags::decide(bytes, 0, splits::out(l, n), splits::open_splits(l, n)) {
-        Choice::Refused(number, place) => {
+    let mut rows = [0u8; 64];
+    let n = within(room);
+    match reader::read_unit(s, address, flags, &mut rows[..n]) {
+        Answer::Refused(number, place) => {
             say(b"", number as u64);
             say(b" at ", place as u64);
+            end_line();
         }
-        Choice::Chosen(d, next) => {
-            match d {
-                Decision::Leaf => say(b"leaf, next flag at ", next as u64),
-                Decision::Quad => say(b"quad, next flag at ", next as u64),
-                Decision::Binary(_) => say(b"binary, next flag at ", next as u64),
-                Decision::Ternary(_) => say(b"ternary, next flag at ", next as u64),
-            }
+        Answer::Accepted(count) => {
+            say(b"rows ", count as u64);
+            end_line();
+            say_rows(&rows, count);
         }
     }
-    end_line();
 }
 
-// A quarter of setting A's unit 0.
-fn quarter(i: u32) -> Node
-    ensures { λ r. ⌜ r .part ≡ i ⌝ }
+// P6's and P7's settings.
+fn setting_128() -> Settings
+    ensures { λ r. ⌜ r ≡ Cases.settings 128 4 8 3 128 64 128 128 ⌝ }
 {
-    let p = blocks::part_at(64, 64, Decision::Quad, i);
-    Node {
-        x: p.left,
-        y: p.top,
-        w: p.wide,
-        h: p.high,
-        qt: 1,
-        mtt: 0,
-        offset: 0,
-        part: i,
-        parent: Decision::Quad,
+    Settings {
+        ctu: 128,
+        mincb: 4,
+        minqt: 8,
+        maxmtt: 3,
+        maxbt: 128,
+        maxtt: 64,
+        width: 128,
+        height: 128,
     }
 }
 
-fn say_two(a: u8, b: u8) {
-    io::print_hex(STDOUT_FILENO, a as u64, 2);
-    io::write_all(STDOUT_FILENO, b" ");
-    io::print_hex(STDOUT_FILENO, b as u64, 2);
+fn setting_32() -> Settings
+    ensures { λ r. ⌜ r ≡ Cases.settings 32 4 32 0 32 32 32 32 ⌝ }
+{
+    Settings {
+        ctu: 32,
+        mincb: 4,
+        minqt: 32,
+        maxmtt: 0,
+        maxbt: 32,
+        maxtt: 32,
+        width: 32,
+        height: 32,
+    }
 }
 
-// A row's 8 bytes, hexadecimal: X, Y, exponents, depths.
-fn say_row(n: Node) {
-    let mut row = [0u8; 8];
-    blocks::put_row(&mut row, 0, blocks::row_word(n));
-    say_two(row[0], row[1]);
-    io::write_all(STDOUT_FILENO, b" ");
-    say_two(row[2], row[3]);
-    io::write_all(STDOUT_FILENO, b" ");
-    say_two(row[4], row[5]);
-    io::write_all(STDOUT_FILENO, b" ");
-    say_two(row[6], row[7]);
-    end_line();
+fn say_readings() {
+    let a = setting_a(64);
+    say_reading(b"P1: ", a, 0, b"\x00", 64);
+    say_reading(b"P2: ", a, 0, b"\x01\x00\x00\x00\x00", 64);
+    say_reading(
+        b"P3: ",
+        a,
+        0,
+        b"\x01\x01\x00\x01\x00\x00\x00\x00\x00\x00\x00",
+        64,
+    );
+    say_reading(
+        b"P4: ",
+        a,
+        0,
+        b"\x01\x01\x00\x01\x00\x00\x01\x01\x00\x00\x00\x00\x00\x00\x00",
+        64,
+    );
+    say_reading(
+        b"P5: ",
+        setting_a(72),
+        1,
+        b"\x00\x00\x01\x00\x00\x01\x00\x00",
+        64,
+    );
+    say_reading(
+        b"P6: ",
+        setting_128(),
+        0,
+        b"\x01\x00\x00\x00\x01\x00\x00",
+        64,
+    );
+    say_reading(b"P7: ", setting_32(), 0, b"", 64);
+    say_reading(b"P8: ", a, 0, b"", 64);
+    say_reading(b"P9: ", a, 0, b"\x00\x00", 64);
 }
 
-fn say_table() {
-    io::write_all(STDOUT_FILENO, b"P2's table:\n");
-    say_row(quarter(0));
-    say_row(quarter(1));
-    say_row(quarter(2));
-    say_row(quarter(3));
+fn say_refusals() {
+    let a = setting_a(64);
+    say_reading(b"a byte of 2: ", a, 0, b"\x02", 64);
+    say_reading(b"flags 1 0 0 0: ", a, 0, b"\x01\x00\x00\x00", 64);
+    say_reading(b"P2 into 31 bytes: ", a, 0, b"\x01\x00\x00\x00\x00", 31);
+    say_reading(b"P2 into 32 bytes: ", a, 0, b"\x01\x00\x00\x00\x00", 32);
+    say_reading(
+        b"a byte after P2's flags, into 31 bytes: ",
+        a,
+        0,
+        b"\x01\x00\x00\x00\x00\x00",
+        31,
+    );
+    say_reading(b"unit 1 of a picture of one: ", a, 1, b"\x00", 64);
+    say_reading(b"width 68: ", setting_a(68), 0, b"\x00", 64);
 }
 
 fn main() {
     say_checks();
     say_units();
-    say_decision(b"P1's flag: ", b"\x00");
-    say_decision(b"P2's first flag: ", b"\x01\x00\x00\x00\x00");
-    say_decision(b"P8, no flags: ", b"");
-    say_decision(b"a byte of 2: ", b"\x02");
-    say_table();
+    say_readings();
+    say_refusals();
 }
