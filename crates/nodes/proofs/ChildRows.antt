@@ -1,6 +1,6 @@
 -- The row number of a child: its parent's, and the step to the part.
 use Prim.Native.Nat.{ℕ, _+_, _-_, _*_, _/_, _%_, _<_, _≤_}
-use mathlib.Core.Path.{_≡_, refl, _∙_}
+use mathlib.Core.Path.{_≡_, refl, ap, _∙_}
 use mathlib.Core.Bool.{Bool, true, false, cond}
 use lib.Dec.{eqb}
 use native.Mathlib.Omega.{arith}
@@ -16,7 +16,7 @@ use Rattle.tree.specs.Rows.{rowOf}
 use Rattle.blocks.specs.Table.{shareAt}
 use Rattle.blocks.specs.Words.{rowWord}
 use Rattle.laws.proofs.Parts.{Piece, no-piece, slice}
-use Rattle.nodes.specs.Words.{nodeIn, fall, stepTo, childRow}
+use Rattle.nodes.specs.Words.{nodeIn, fall, deeper, stepTo, childRow}
 use Rattle.nodes.specs.Stands.{Stands, word}
 use Rattle.nodes.proofs.Sides.{one-least, exponent-of, exponent-falls}
 use Rattle.nodes.proofs.RowFields.{packed, Fits, row-packed, fits, width-says, height-says}
@@ -74,29 +74,41 @@ module _ {l : Limits} {n : Node} {row kept : ℕ} (s : Stands l n (word row kept
       }
 
   -- the step as the node says it
-  step-is : (deeper : ℕ) → stepTo row deeper p ≡ deeper + n .w / 4 * p .left + n .h / 4 * p .top * 65536 - (fall (p .wide) * 4294967296 + fall (p .high) * 1099511627776)
+  step-is : stepTo row d p ≡ deeper d + n .w / 4 * p .left + n .h / 4 * p .top * 65536 - (fall (p .wide) * 4294967296 + fall (p .high) * 1099511627776)
   unfolding nodeIn
-  step-is deeper = rw (width-says s, height-says s)
+  step-is = rw (width-says s, height-says s)
 
   row-is : row ≡ packed (n .x) (n .y) (exponent (n .w)) (exponent (n .h)) (n .qt) (n .mtt)
   row-is = s .row ∙ row-packed (fits s)
 
-  cut-row : child l n d p .qt ≡ n .qt → child l n d p .mtt ≡ n .mtt + 1 → (row + stepTo row 72057594037927936 p) % 18446744073709551616 ≡ rowWord (rowOf (child l n d p))
+  cut-row : child l n d p .qt ≡ n .qt → child l n d p .mtt ≡ n .mtt + 1 → deeper d ≡ 72057594037927936 → (row + stepTo row d p) % 18446744073709551616 ≡ rowWord (rowOf (child l n d p))
   unfolding child
-  cut-row eq em =
+  cut-row eq em ed =
       let hm = c .mtt-fits in
-      rw (step-is 72057594037927936, row-packed c, eq, em, row-is) (cut-packed part-step (n .qt) (n .mtt) (fits s .qt-fits) (omega arith))
+      rw (step-is, ed, row-packed c, eq, em, row-is) (cut-packed part-step (n .qt) (n .mtt) (fits s .qt-fits) (omega arith))
 
-  quad-row : child l n d p .qt ≡ n .qt + 1 → child l n d p .mtt ≡ 0 → row % 72057594037927936 + stepTo row 281474976710656 p ≡ rowWord (rowOf (child l n d p))
+  quad-row : child l n d p .qt ≡ n .qt + 1 → child l n d p .mtt ≡ 0 → deeper d ≡ 281474976710656 → row % 72057594037927936 + stepTo row d p ≡ rowWord (rowOf (child l n d p))
   unfolding child
-  quad-row eq em =
+  quad-row eq em ed =
       let hq = c .qt-fits in
-      rw (step-is 281474976710656, row-packed c, eq, em, row-is) (quad-packed part-step (n .qt) (n .mtt) (omega arith) (fits s .mtt-fits))
+      rw (step-is, ed, row-packed c, eq, em, row-is) (quad-packed part-step (n .qt) (n .mtt) (omega arith) (fits s .mtt-fits))
+
+-- the row of a node that fits is a number of 64 bits
+word-fits : {n : Node} → Fits n → rowWord (rowOf n) % 18446744073709551616 ≡ rowWord (rowOf n)
+word-fits f =
+    let a = exponent-of (f .wide) .small in
+    let b = exponent-of (f .high) .small in
+    let x = f .x-fits in
+    let y = f .y-fits in
+    let q = f .qt-fits in
+    let m = f .mtt-fits in
+    let e = row-packed f in
+    omega arith
 
 pub child-row : {l : Limits} {n : Node} {row kept : ℕ} → Stands l n (word row kept) → (d : Decision) (i : ℕ) → Piece d (shareAt d i) → Fits (child l n d (shareAt d i))
     → childRow row d i ≡ rowWord (rowOf (child l n d (shareAt d i)))
 unfolding childRow child childQt childMtt
 child-row s Leaf i piece c = no-piece piece
-child-row s Quad i piece c = quad-row s piece c refl refl
-child-row s (Binary d) i piece c = cut-row s piece c refl refl
-child-row s (Ternary d) i piece c = cut-row s piece c refl refl
+child-row s Quad i piece c = ap (λ r. r % 18446744073709551616) (quad-row s piece c refl refl refl) ∙ word-fits c
+child-row s (Binary d) i piece c = cut-row s piece c refl refl refl
+child-row s (Ternary d) i piece c = cut-row s piece c refl refl refl

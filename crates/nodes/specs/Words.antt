@@ -56,18 +56,29 @@ openIn u row kept =
 abbrev pub fall : ℕ → ℕ
 fall size = cond (eqb size 1) 2 (cond (eqb size 2) 1 0)
 
--- what a part adds to its parent's row, `deeper` for its depth: its place less the fall of its exponents
-abbrev pub stepTo : ℕ → ℕ → Share → ℕ
-stepTo row deeper p =
-    deeper + partOf (nodeIn row 0 .w) (nodeIn row 0 .h) p .left + partOf (nodeIn row 0 .w) (nodeIn row 0 .h) p .top * 65536
+-- what a child adds to its parent's depths in the row's number: 1 to the QT depth under a quad split, else 1 to the MTT depth
+abbrev pub deeper : Decision → ℕ
+deeper Leaf = 72057594037927936
+deeper Quad = 281474976710656
+deeper (Binary d) = 72057594037927936
+deeper (Ternary d) = 72057594037927936
+
+-- what a part adds to its parent's row: its depth and its place, less the fall of its exponents
+abbrev pub stepTo : ℕ → Decision → Share → ℕ
+stepTo row d p =
+    deeper d + partOf (nodeIn row 0 .w) (nodeIn row 0 .h) p .left + partOf (nodeIn row 0 .w) (nodeIn row 0 .h) p .top * 65536
     - (fall (p .wide) * 4294967296 + fall (p .high) * 1099511627776)
 
--- the row of a child: one more QT depth and no MTT depth, or one more MTT depth
+-- the parent's row that a child's is made from: a quad split leaves no MTT depth
+abbrev pub rowAbove : ℕ → Decision → ℕ
+rowAbove row Leaf = row
+rowAbove row Quad = row % 72057594037927936
+rowAbove row (Binary d) = row
+rowAbove row (Ternary d) = row
+
+-- the row of the child with a number
 unfoldable pub childRow : ℕ → Decision → ℕ → ℕ
-childRow row Leaf i = (row + stepTo row 72057594037927936 (shareAt Leaf i)) % 2 ^ 64
-childRow row Quad i = row % 72057594037927936 + stepTo row 281474976710656 (shareAt Quad i)
-childRow row (Binary d) i = (row + stepTo row 72057594037927936 (shareAt (Binary d) i)) % 2 ^ 64
-childRow row (Ternary d) i = (row + stepTo row 72057594037927936 (shareAt (Ternary d) i)) % 2 ^ 64
+childRow row d i = (rowAbove row d + stepTo row d (shareAt d i)) % 2 ^ 64
 
 -- `kept` for a child above all cuts: QT, and the cuts where M is not 0
 abbrev pub keptAbove : List ℕ → Bool → ℕ

@@ -12,7 +12,7 @@ ghost use Rattle.tree.specs.Splits as Splits;
 ghost use Rattle.blocks.specs.Table.{shareAt};
 ghost use Rattle.nodes.specs.Tables.{limitsIn};
 ghost use Rattle.nodes.specs.Words as Words;
-ghost use Rattle.nodes.specs.Words.{stepTo, childRow, keptAbove, keptBelow, cutsOf, keptUnder};
+ghost use Rattle.nodes.specs.Words.{stepTo, rowAbove, childRow, keptAbove, keptBelow, cutsOf, keptUnder};
 
 // By how much the exponent of a part's side is below its parent's, from the part's length in quarters.
 fn fall(size: u32) -> u64
@@ -25,33 +25,45 @@ fn fall(size: u32) -> u64
     }
 }
 
-// What a part adds to its parent's row.
-fn step_to(row: u64, deeper: u64, d: Decision, i: u32) -> u64
-    requires { ⌜ (281474976710656 ≤ deeper) × (deeper ≤ 72057594037927936) ⌝ }
-    ensures { λ r. ⌜ (r ≡ stepTo row deeper (shareAt d i)) × (r ≤ 72057594054705152) ⌝ }
+// What a child adds to its parent's depths in the row's number: 1 to the QT depth under a quad split, else 1 to the MTT depth.
+fn deeper(d: Decision) -> u64
+    ensures { λ r. ⌜ (r ≡ Words.deeper d) × (281474976710656 ≤ r) × (r ≤ 72057594037927936) ⌝ }
+{
+    match d {
+        Decision::Leaf => 72057594037927936,
+        Decision::Quad => 281474976710656,
+        Decision::Binary(_) => 72057594037927936,
+        Decision::Ternary(_) => 72057594037927936,
+    }
+}
+
+// What a part adds to its parent's row: its depth and its place, less the fall of its exponents.
+fn step_to(row: u64, d: Decision, i: u32) -> u64
+    ensures { λ r. ⌜ r ≡ stepTo row d (shareAt d i) ⌝ }
 {
     let place = blocks::part_at(width(row), height(row), d, i);
     let share = blocks::share_at(d, i);
     let falls = fall(share.wide) * 4294967296 + fall(share.high) * 1099511627776;
-    deeper + (place.left as u64) + (place.top as u64) * 65536 - falls
+    deeper(d) + (place.left as u64) + (place.top as u64) * 65536 - falls
 }
 
-// The row of a child: one more QT depth and no MTT depth, or one more MTT depth.
+// The parent's row that a child's is made from: a quad split leaves no MTT depth.
+fn row_above(row: u64, d: Decision) -> u64
+    ensures { λ r. ⌜ r ≡ rowAbove row d ⌝ }
+{
+    match d {
+        Decision::Leaf => row,
+        Decision::Quad => row % 72057594037927936,
+        Decision::Binary(_) => row,
+        Decision::Ternary(_) => row,
+    }
+}
+
+// The row of the child with a number.
 pub fn child_row(row: u64, d: Decision, i: u32) -> u64
     ensures { λ r. ⌜ r ≡ childRow row d i ⌝ }
 {
-    match d {
-        Decision::Leaf => std::num::wrapping_add_u64(row, step_to(row, 72057594037927936, d, i)),
-        Decision::Quad => row % 72057594037927936 + step_to(row, 281474976710656, d, i),
-        Decision::Binary(_) => std::num::wrapping_add_u64(
-            row,
-            step_to(row, 72057594037927936, d, i),
-        ),
-        Decision::Ternary(_) => std::num::wrapping_add_u64(
-            row,
-            step_to(row, 72057594037927936, d, i),
-        ),
-    }
+    std::num::wrapping_add_u64(row_above(row, d), step_to(row, d, i))
 }
 
 // M, the bound of the MTT depth.

@@ -71,33 +71,19 @@ pub fn children_walk(
 {
     match d {
         Decision::Leaf => c,
-        Decision::Quad => four_walk(
-            u,
-            flags,
-            rows,
-            c,
-            row,
-            nodes::kept_under(u, row, kept, out, d, 0),
-        ),
-        Decision::Binary(v) => two_walk(
-            u,
-            flags,
-            rows,
-            c,
-            row,
-            v,
-            nodes::kept_under(u, row, kept, out, d, 0),
-        ),
-        Decision::Ternary(v) => three_walk(
-            u,
-            flags,
-            rows,
-            c,
-            row,
-            v,
-            nodes::kept_under(u, row, kept, out, d, 0),
-            nodes::kept_under(u, row, kept, out, d, 1),
-        ),
+        Decision::Quad => {
+            let k = nodes::kept_under(u, row, kept, out, d, 0);
+            four_walk(u, flags, rows, c, row, k)
+        }
+        Decision::Binary(v) => {
+            let k = nodes::kept_under(u, row, kept, out, d, 0);
+            two_walk(u, flags, rows, c, row, v, k)
+        }
+        Decision::Ternary(v) => {
+            let k = nodes::kept_under(u, row, kept, out, d, 0);
+            let middle = nodes::kept_under(u, row, kept, out, d, 1);
+            three_walk(u, flags, rows, c, row, v, k, middle)
+        }
     }
 }
 
@@ -113,47 +99,23 @@ pub fn four_walk(
     requires { ⌜ Asked (now u) c (fourWords row kept) ⌝ }
     ensures { λ r. ⌜ Walked (now (u .entry)) (now (flags .entry)) c (fourWords row kept) (now (rows .entry)) r (now (rows .exit)) ⌝ }
 {
-    let first = node_walk(
-        u,
-        flags,
-        rows,
-        c,
-        nodes::child_row(row, Decision::Quad, 0),
-        kept,
-    );
+    let row0 = nodes::child_row(row, Decision::Quad, 0);
+    let first = node_walk(u, flags, rows, c, row0, kept);
     let Child::Read(c1) = taken_apart(first) else {
         return first;
     };
-    let second = node_walk(
-        u,
-        flags,
-        rows,
-        c1,
-        nodes::child_row(row, Decision::Quad, 1),
-        kept,
-    );
+    let row1 = nodes::child_row(row, Decision::Quad, 1);
+    let second = node_walk(u, flags, rows, c1, row1, kept);
     let Child::Read(c2) = taken_apart(second) else {
         return second;
     };
-    let third = node_walk(
-        u,
-        flags,
-        rows,
-        c2,
-        nodes::child_row(row, Decision::Quad, 2),
-        kept,
-    );
+    let row2 = nodes::child_row(row, Decision::Quad, 2);
+    let third = node_walk(u, flags, rows, c2, row2, kept);
     let Child::Read(c3) = taken_apart(third) else {
         return third;
     };
-    node_walk(
-        u,
-        flags,
-        rows,
-        c3,
-        nodes::child_row(row, Decision::Quad, 3),
-        kept,
-    )
+    let row3 = nodes::child_row(row, Decision::Quad, 3);
+    node_walk(u, flags, rows, c3, row3, kept)
 }
 
 // The two parts of a binary split.
@@ -169,25 +131,13 @@ pub fn two_walk(
     requires { ⌜ Asked (now u) c (twoWords row d kept) ⌝ }
     ensures { λ r. ⌜ Walked (now (u .entry)) (now (flags .entry)) c (twoWords row d kept) (now (rows .entry)) r (now (rows .exit)) ⌝ }
 {
-    let first = node_walk(
-        u,
-        flags,
-        rows,
-        c,
-        nodes::child_row(row, Decision::Binary(d), 0),
-        kept,
-    );
+    let row0 = nodes::child_row(row, Decision::Binary(d), 0);
+    let first = node_walk(u, flags, rows, c, row0, kept);
     let Child::Read(c1) = taken_apart(first) else {
         return first;
     };
-    node_walk(
-        u,
-        flags,
-        rows,
-        c1,
-        nodes::child_row(row, Decision::Binary(d), 1),
-        kept,
-    )
+    let row1 = nodes::child_row(row, Decision::Binary(d), 1);
+    node_walk(u, flags, rows, c1, row1, kept)
 }
 
 // The three parts of a ternary split; the middle one keeps less.
@@ -204,34 +154,16 @@ pub fn three_walk(
     requires { ⌜ Asked (now u) c (threeWords row d kept middle) ⌝ }
     ensures { λ r. ⌜ Walked (now (u .entry)) (now (flags .entry)) c (threeWords row d kept middle) (now (rows .entry)) r (now (rows .exit)) ⌝ }
 {
-    let first = node_walk(
-        u,
-        flags,
-        rows,
-        c,
-        nodes::child_row(row, Decision::Ternary(d), 0),
-        kept,
-    );
+    let row0 = nodes::child_row(row, Decision::Ternary(d), 0);
+    let first = node_walk(u, flags, rows, c, row0, kept);
     let Child::Read(c1) = taken_apart(first) else {
         return first;
     };
-    let second = node_walk(
-        u,
-        flags,
-        rows,
-        c1,
-        nodes::child_row(row, Decision::Ternary(d), 1),
-        middle,
-    );
+    let row1 = nodes::child_row(row, Decision::Ternary(d), 1);
+    let second = node_walk(u, flags, rows, c1, row1, middle);
     let Child::Read(c2) = taken_apart(second) else {
         return second;
     };
-    node_walk(
-        u,
-        flags,
-        rows,
-        c2,
-        nodes::child_row(row, Decision::Ternary(d), 2),
-        kept,
-    )
+    let row2 = nodes::child_row(row, Decision::Ternary(d), 2);
+    node_walk(u, flags, rows, c2, row2, kept)
 }

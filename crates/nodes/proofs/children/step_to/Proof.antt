@@ -1,6 +1,4 @@
 use Rattle.nodes.specs.Words.{nodeIn}
-use native.Mathlib.Omega.{arith}
-use Rattle.nodes.proofs.Bounds.{step-small}
 use borrow.Author.Needs.{needs}
 use Rattle.nodes.proofs.children.step_to.Statement.{statement}
 use Rattle.nodes.proofs.children.step_to.Tie as tie
@@ -32,6 +30,9 @@ mul-falls-2 c = search needs
 add-falls : tie.Need-add-falls
 add-falls c = search needs
 
+deeper-requires : tie.Need-deeper-requires
+deeper-requires c κs = search needs
+
 cast-result : tie.Need-cast-result
 cast-result c = search needs
 
@@ -53,9 +54,13 @@ sub-result c = search needs
 returns : tie.Need-returns
 unfolding nodeIn
 returns c =
-    let a = c .before .before .before .before .before .before .before .before .args in
-    step-small (a .row) (a .deeper) (a .d) (a .i) (omega arith)
-    (rw (c .before .before .before .before .before .part-at .ensures, c .before .before .before .fall .ensures .0, c .before .before .fall2 .ensures .0, c .before .before .before .before .share-at .ensures, c .before .before .before .before .before .before .before .width .ensures, c .before .before .before .before .before .before .height .ensures))
+    let de = c .before .before in
+    let f2 = de .before in
+    let f1 = f2 .before in
+    let sh = f1 .before in
+    let pa = sh .before in
+    let he = pa .before in
+    rw (de .deeper .ensures .0, pa .part-at .ensures, f1 .fall .ensures .0, f2 .fall2 .ensures .0, sh .share-at .ensures, he .before .width .ensures, he .height .ensures)
 
 pub step-to-spec : {M : Type 1} → statement M
 step-to-spec =
@@ -70,6 +75,7 @@ step-to-spec =
     fall-requires-2
     mul-falls-2
     add-falls
+    deeper-requires
     cast-result
     add-result
     cast-result-2

@@ -132,12 +132,13 @@ children-walk-kept-under-requires t c κs = search needs
 
 children-walk-four-walk-requires : (t : ℕ) → children-walk-lts.Need-four-walk-requires (children-claims t) (children-walk-at t) children-walk.Post
 children-walk-four-walk-requires t c κs =
-    let told = c .before .before in
+    let k = c .before in
+    let told = k .before in
     let st = told .before .before .before in
     let a = st .args in
     let e = told .enum-told2 .given .1 in (
       kids-fall (four-areas (now (a .u)) (a .row) e) (st .pre .0),
-      subst (λ ws. Asked (now (a .u)) (a .c) ws) (sym (four-words (now (a .u)) (a .row) (a .kept) (a .out) e (c .kept-under .ensures))) (st .pre .1),
+      subst (λ ws. Asked (now (a .u)) (a .c) ws) (sym (four-words (now (a .u)) (a .row) (a .kept) (a .out) e (k .kept-under .ensures))) (st .pre .1),
     )
 
 children-walk-enum-known-d : (t : ℕ) → children-walk-lts.Need-enum-known-d (children-claims t) (children-walk-at t) children-walk.Post
@@ -148,12 +149,13 @@ children-walk-kept-under-requires-2 t c κs = search needs
 
 children-walk-two-walk-requires : (t : ℕ) → children-walk-lts.Need-two-walk-requires (children-claims t) (children-walk-at t) children-walk.Post
 children-walk-two-walk-requires t c κs =
-    let d = c .before .before .before in
+    let k = c .before in
+    let d = k .before .before in
     let st = d .before .before .before in
     let a = st .args in
     let e = d .d .given .1 in (
       kids-fall (two-areas (now (a .u)) (a .row) _ e) (st .pre .0),
-      subst (λ ws. Asked (now (a .u)) (a .c) ws) (sym (two-words (now (a .u)) (a .row) (a .kept) (a .out) _ e (c .kept-under2 .ensures))) (st .pre .1),
+      subst (λ ws. Asked (now (a .u)) (a .c) ws) (sym (two-words (now (a .u)) (a .row) (a .kept) (a .out) _ e (k .kept-under2 .ensures))) (st .pre .1),
     )
 
 children-walk-enum-known-d-2 : (t : ℕ) → children-walk-lts.Need-enum-known-d-2 (children-claims t) (children-walk-at t) children-walk.Post
@@ -167,13 +169,14 @@ children-walk-kept-under-requires-4 t c κs = search needs
 
 children-walk-three-walk-requires : (t : ℕ) → children-walk-lts.Need-three-walk-requires (children-claims t) (children-walk-at t) children-walk.Post
 children-walk-three-walk-requires t c κs =
-    let k = c .before in
-    let d = k .before .before .before in
+    let m = c .before in
+    let k = m .before in
+    let d = k .before .before in
     let st = d .before .before .before in
     let a = st .args in
     let e = d .d2 .given .1 in (
       kids-fall (three-areas (now (a .u)) (a .row) _ e) (st .pre .0),
-      subst (λ ws. Asked (now (a .u)) (a .c) ws) (sym (three-words (now (a .u)) (a .row) (a .kept) (a .out) _ e (k .kept-under3 .ensures) (c .kept-under4 .ensures))) (st .pre .1),
+      subst (λ ws. Asked (now (a .u)) (a .c) ws) (sym (three-words (now (a .u)) (a .row) (a .kept) (a .out) _ e (k .kept-under3 .ensures) (m .kept-under4 .ensures))) (st .pre .1),
     )
 
 children-walk-returns : (t : ℕ) → children-walk-lts.Need-returns (children-claims t) (children-walk-at t) children-walk.Post
@@ -183,8 +186,8 @@ children-walk-returns t c =
 
 children-walk-returns-2 : (t : ℕ) → children-walk-lts.Need-returns-2 (children-claims t) (children-walk-at t) children-walk.Post
 children-walk-returns-2 t c =
-    let k = c .before in
-    let told = k .before .before in
+    let k = c .before .before in
+    let told = k .before in
     let a = told .before .before .before .args in
     let e = told .enum-told2 .given .1 in
     subst (λ ws. Walked (now (a .u)) (now (a .flags)) (a .c) ws (now (a .rows)) (c .four-walk .result) (c .four-walk .last .1 .1 .0))
@@ -192,8 +195,8 @@ children-walk-returns-2 t c =
 
 children-walk-returns-3 : (t : ℕ) → children-walk-lts.Need-returns-3 (children-claims t) (children-walk-at t) children-walk.Post
 children-walk-returns-3 t c =
-    let k = c .before in
-    let d = k .before .before .before in
+    let k = c .before .before in
+    let d = k .before .before in
     let a = d .before .before .before .args in
     let e = d .d .given .1 in
     subst (λ ws. Walked (now (a .u)) (now (a .flags)) (a .c) ws (now (a .rows)) (c .two-walk .result) (c .two-walk .last .1 .1 .0))
@@ -201,9 +204,9 @@ children-walk-returns-3 t c =
 
 children-walk-returns-4 : (t : ℕ) → children-walk-lts.Need-returns-4 (children-claims t) (children-walk-at t) children-walk.Post
 children-walk-returns-4 t c =
-    let m = c .before in
+    let m = c .before .before in
     let k = m .before in
-    let d = k .before .before .before in
+    let d = k .before .before in
     let a = d .before .before .before .args in
     let e = d .d2 .given .1 in
     subst (λ ws. Walked (now (a .u)) (now (a .flags)) (a .c) ws (now (a .rows)) (c .three-walk .result) (c .three-walk .last .1 .1 .0))
@@ -214,8 +217,8 @@ four-walk-child-row-requires t c κs = search needs
 
 four-walk-node-walk-requires : (t : ℕ) → four-walk-lts.Need-node-walk-requires (four-claims t) (four-walk-at t) four-walk.Post
 four-walk-node-walk-requires t c κs =
-    let k1 = c in
-    let st = k1 .before .before .before in
+    let k1 = c .before in
+    let st = k1 .before .before in
     let a = st .args in
     (part-falls (fourWords (a .row) 0) (childRow (a .row) Quad 0) (k1 .child-row .ensures) (at-first-of (word (childRow (a .row) Quad 0) 0) (word (childRow (a .row) Quad 1) 0) ((word (childRow (a .row) Quad 2) 0) ∷ ((word (childRow (a .row) Quad 3) 0) ∷ []))) (st .pre .0), found-first (k1 .child-row .ensures) (st .pre .1))
 
@@ -232,9 +235,7 @@ four-walk-returns : (t : ℕ) → four-walk-lts.Need-returns (four-claims t) (fo
 four-walk-returns t c =
     let t1 = c .before .before in
     let n1 = t1 .before in
-    let k1 = n1 .before in
-    let st = k1 .before .before .before in
-    let a = st .args in
+    let k1 = n1 .before .before in
     found-stop (k1 .child-row .ensures) (n1 .node-walk .ensures) (was-refused _ (t1 .taken-apart .ensures) (c .enum-told .given .1))
 
 four-walk-child-row-requires-2 : (t : ℕ) → four-walk-lts.Need-child-row-requires-2 (four-claims t) (four-walk-at t) four-walk.Post
@@ -242,12 +243,12 @@ four-walk-child-row-requires-2 t c κs = search needs
 
 four-walk-node-walk-requires-2 : (t : ℕ) → four-walk-lts.Need-node-walk-requires-2 (four-claims t) (four-walk-at t) four-walk.Post
 four-walk-node-walk-requires-2 t c κs =
-    let k2 = c in
-    let o1 = k2 .before .before .before in
+    let k2 = c .before in
+    let o1 = k2 .before .before in
     let t1 = o1 .before .before in
     let n1 = t1 .before in
-    let k1 = n1 .before in
-    let st = k1 .before .before .before in
+    let k1 = n1 .before .before in
+    let st = k1 .before .before in
     let a = st .args in
     (part-falls (fourWords (a .row) 0) (childRow (a .row) Quad 1) (k2 .child-row2 .ensures) (at-later (word (childRow (a .row) Quad 0) 0) ((word (childRow (a .row) Quad 1) 0) ∷ ((word (childRow (a .row) Quad 2) 0) ∷ ((word (childRow (a .row) Quad 3) 0) ∷ []))) _ (at-first (word (childRow (a .row) Quad 1) 0) ((word (childRow (a .row) Quad 2) 0) ∷ ((word (childRow (a .row) Quad 3) 0) ∷ [])))) (st .pre .0), found-first (k2 .child-row2 .ensures) (found-asks (k1 .child-row .ensures) (n1 .node-walk .ensures) (was-read _ (t1 .taken-apart .ensures) (o1 .c1 .given .1)) (st .pre .1)))
 
@@ -264,13 +265,11 @@ four-walk-returns-2 : (t : ℕ) → four-walk-lts.Need-returns-2 (four-claims t)
 four-walk-returns-2 t c =
     let t2 = c .before .before in
     let n2 = t2 .before in
-    let k2 = n2 .before in
-    let o1 = k2 .before .before .before in
+    let k2 = n2 .before .before in
+    let o1 = k2 .before .before in
     let t1 = o1 .before .before in
     let n1 = t1 .before in
-    let k1 = n1 .before in
-    let st = k1 .before .before .before in
-    let a = st .args in
+    let k1 = n1 .before .before in
     found-rest (k1 .child-row .ensures) (n1 .node-walk .ensures) (was-read _ (t1 .taken-apart .ensures) (o1 .c1 .given .1)) (found-stop (k2 .child-row2 .ensures) (n2 .node-walk2 .ensures) (was-refused _ (t2 .taken-apart2 .ensures) (c .enum-told2 .given .1)))
 
 four-walk-child-row-requires-3 : (t : ℕ) → four-walk-lts.Need-child-row-requires-3 (four-claims t) (four-walk-at t) four-walk.Post
@@ -278,16 +277,16 @@ four-walk-child-row-requires-3 t c κs = search needs
 
 four-walk-node-walk-requires-3 : (t : ℕ) → four-walk-lts.Need-node-walk-requires-3 (four-claims t) (four-walk-at t) four-walk.Post
 four-walk-node-walk-requires-3 t c κs =
-    let k3 = c in
-    let o2 = k3 .before .before .before in
+    let k3 = c .before in
+    let o2 = k3 .before .before in
     let t2 = o2 .before .before in
     let n2 = t2 .before in
-    let k2 = n2 .before in
-    let o1 = k2 .before .before .before in
+    let k2 = n2 .before .before in
+    let o1 = k2 .before .before in
     let t1 = o1 .before .before in
     let n1 = t1 .before in
-    let k1 = n1 .before in
-    let st = k1 .before .before .before in
+    let k1 = n1 .before .before in
+    let st = k1 .before .before in
     let a = st .args in
     (part-falls (fourWords (a .row) 0) (childRow (a .row) Quad 2) (k3 .child-row3 .ensures) (before-more (word (childRow (a .row) Quad 0) 0) ((word (childRow (a .row) Quad 1) 0) ∷ ((word (childRow (a .row) Quad 2) 0) ∷ ((word (childRow (a .row) Quad 3) 0) ∷ []))) _ (at-later (word (childRow (a .row) Quad 1) 0) ((word (childRow (a .row) Quad 2) 0) ∷ ((word (childRow (a .row) Quad 3) 0) ∷ [])) _ (at-first (word (childRow (a .row) Quad 2) 0) ((word (childRow (a .row) Quad 3) 0) ∷ [])))) (st .pre .0), found-first (k3 .child-row3 .ensures) (found-asks (k2 .child-row2 .ensures) (n2 .node-walk2 .ensures) (was-read _ (t2 .taken-apart2 .ensures) (o2 .c2 .given .1)) (found-asks (k1 .child-row .ensures) (n1 .node-walk .ensures) (was-read _ (t1 .taken-apart .ensures) (o1 .c1 .given .1)) (st .pre .1))))
 
@@ -304,17 +303,15 @@ four-walk-returns-3 : (t : ℕ) → four-walk-lts.Need-returns-3 (four-claims t)
 four-walk-returns-3 t c =
     let t3 = c .before .before in
     let n3 = t3 .before in
-    let k3 = n3 .before in
-    let o2 = k3 .before .before .before in
+    let k3 = n3 .before .before in
+    let o2 = k3 .before .before in
     let t2 = o2 .before .before in
     let n2 = t2 .before in
-    let k2 = n2 .before in
-    let o1 = k2 .before .before .before in
+    let k2 = n2 .before .before in
+    let o1 = k2 .before .before in
     let t1 = o1 .before .before in
     let n1 = t1 .before in
-    let k1 = n1 .before in
-    let st = k1 .before .before .before in
-    let a = st .args in
+    let k1 = n1 .before .before in
     found-rest (k1 .child-row .ensures) (n1 .node-walk .ensures) (was-read _ (t1 .taken-apart .ensures) (o1 .c1 .given .1)) (found-rest (k2 .child-row2 .ensures) (n2 .node-walk2 .ensures) (was-read _ (t2 .taken-apart2 .ensures) (o2 .c2 .given .1)) (found-stop (k3 .child-row3 .ensures) (n3 .node-walk3 .ensures) (was-refused _ (t3 .taken-apart3 .ensures) (c .enum-told3 .given .1))))
 
 four-walk-child-row-requires-4 : (t : ℕ) → four-walk-lts.Need-child-row-requires-4 (four-claims t) (four-walk-at t) four-walk.Post
@@ -322,40 +319,38 @@ four-walk-child-row-requires-4 t c κs = search needs
 
 four-walk-node-walk-requires-4 : (t : ℕ) → four-walk-lts.Need-node-walk-requires-4 (four-claims t) (four-walk-at t) four-walk.Post
 four-walk-node-walk-requires-4 t c κs =
-    let k4 = c in
-    let o3 = k4 .before .before .before in
+    let k4 = c .before in
+    let o3 = k4 .before .before in
     let t3 = o3 .before .before in
     let n3 = t3 .before in
-    let k3 = n3 .before in
-    let o2 = k3 .before .before .before in
+    let k3 = n3 .before .before in
+    let o2 = k3 .before .before in
     let t2 = o2 .before .before in
     let n2 = t2 .before in
-    let k2 = n2 .before in
-    let o1 = k2 .before .before .before in
+    let k2 = n2 .before .before in
+    let o1 = k2 .before .before in
     let t1 = o1 .before .before in
     let n1 = t1 .before in
-    let k1 = n1 .before in
-    let st = k1 .before .before .before in
+    let k1 = n1 .before .before in
+    let st = k1 .before .before in
     let a = st .args in
     (part-falls (fourWords (a .row) 0) (childRow (a .row) Quad 3) (k4 .child-row4 .ensures) (before-more (word (childRow (a .row) Quad 0) 0) ((word (childRow (a .row) Quad 1) 0) ∷ ((word (childRow (a .row) Quad 2) 0) ∷ ((word (childRow (a .row) Quad 3) 0) ∷ []))) _ (before-more (word (childRow (a .row) Quad 1) 0) ((word (childRow (a .row) Quad 2) 0) ∷ ((word (childRow (a .row) Quad 3) 0) ∷ [])) _ (at-later (word (childRow (a .row) Quad 2) 0) ((word (childRow (a .row) Quad 3) 0) ∷ []) _ (at-first (word (childRow (a .row) Quad 3) 0) [])))) (st .pre .0), found-first (k4 .child-row4 .ensures) (found-asks (k3 .child-row3 .ensures) (n3 .node-walk3 .ensures) (was-read _ (t3 .taken-apart3 .ensures) (o3 .c3 .given .1)) (found-asks (k2 .child-row2 .ensures) (n2 .node-walk2 .ensures) (was-read _ (t2 .taken-apart2 .ensures) (o2 .c2 .given .1)) (found-asks (k1 .child-row .ensures) (n1 .node-walk .ensures) (was-read _ (t1 .taken-apart .ensures) (o1 .c1 .given .1)) (st .pre .1)))))
 
 four-walk-returns-4 : (t : ℕ) → four-walk-lts.Need-returns-4 (four-claims t) (four-walk-at t) four-walk.Post
 four-walk-returns-4 t c =
-    let k4 = c .before in
-    let o3 = k4 .before .before .before in
+    let k4 = c .before .before in
+    let o3 = k4 .before .before in
     let t3 = o3 .before .before in
     let n3 = t3 .before in
-    let k3 = n3 .before in
-    let o2 = k3 .before .before .before in
+    let k3 = n3 .before .before in
+    let o2 = k3 .before .before in
     let t2 = o2 .before .before in
     let n2 = t2 .before in
-    let k2 = n2 .before in
-    let o1 = k2 .before .before .before in
+    let k2 = n2 .before .before in
+    let o1 = k2 .before .before in
     let t1 = o1 .before .before in
     let n1 = t1 .before in
-    let k1 = n1 .before in
-    let st = k1 .before .before .before in
-    let a = st .args in
+    let k1 = n1 .before .before in
     found-rest (k1 .child-row .ensures) (n1 .node-walk .ensures) (was-read _ (t1 .taken-apart .ensures) (o1 .c1 .given .1)) (found-rest (k2 .child-row2 .ensures) (n2 .node-walk2 .ensures) (was-read _ (t2 .taken-apart2 .ensures) (o2 .c2 .given .1)) (found-rest (k3 .child-row3 .ensures) (n3 .node-walk3 .ensures) (was-read _ (t3 .taken-apart3 .ensures) (o3 .c3 .given .1)) (as-found (k4 .child-row4 .ensures) (c .node-walk4 .ensures))))
 
 node-walk-skipped-requires : (t : ℕ) → node-walk-lts.Need-skipped-requires (node-claims t) (node-walk-at t) node-walk.Post
@@ -538,8 +533,8 @@ three-walk-child-row-requires t c κs = search needs
 
 three-walk-node-walk-requires : (t : ℕ) → three-walk-lts.Need-node-walk-requires (three-claims t) (three-walk-at t) three-walk.Post
 three-walk-node-walk-requires t c κs =
-    let k1 = c in
-    let st = k1 .before .before .before in
+    let k1 = c .before in
+    let st = k1 .before .before in
     let a = st .args in
     (part-falls (threeWords (a .row) (a .d) 0 0) (childRow (a .row) (Ternary (a .d)) 0) (k1 .child-row .ensures) (at-first-of (word (childRow (a .row) (Ternary (a .d)) 0) 0) (word (childRow (a .row) (Ternary (a .d)) 1) 0) ((word (childRow (a .row) (Ternary (a .d)) 2) 0) ∷ [])) (st .pre .0), found-first (k1 .child-row .ensures) (st .pre .1))
 
@@ -556,9 +551,7 @@ three-walk-returns : (t : ℕ) → three-walk-lts.Need-returns (three-claims t) 
 three-walk-returns t c =
     let t1 = c .before .before in
     let n1 = t1 .before in
-    let k1 = n1 .before in
-    let st = k1 .before .before .before in
-    let a = st .args in
+    let k1 = n1 .before .before in
     found-stop (k1 .child-row .ensures) (n1 .node-walk .ensures) (was-refused _ (t1 .taken-apart .ensures) (c .enum-told .given .1))
 
 three-walk-child-row-requires-2 : (t : ℕ) → three-walk-lts.Need-child-row-requires-2 (three-claims t) (three-walk-at t) three-walk.Post
@@ -566,12 +559,12 @@ three-walk-child-row-requires-2 t c κs = search needs
 
 three-walk-node-walk-requires-2 : (t : ℕ) → three-walk-lts.Need-node-walk-requires-2 (three-claims t) (three-walk-at t) three-walk.Post
 three-walk-node-walk-requires-2 t c κs =
-    let k2 = c in
-    let o1 = k2 .before .before .before in
+    let k2 = c .before in
+    let o1 = k2 .before .before in
     let t1 = o1 .before .before in
     let n1 = t1 .before in
-    let k1 = n1 .before in
-    let st = k1 .before .before .before in
+    let k1 = n1 .before .before in
+    let st = k1 .before .before in
     let a = st .args in
     (part-falls (threeWords (a .row) (a .d) 0 0) (childRow (a .row) (Ternary (a .d)) 1) (k2 .child-row2 .ensures) (at-later (word (childRow (a .row) (Ternary (a .d)) 0) 0) ((word (childRow (a .row) (Ternary (a .d)) 1) 0) ∷ ((word (childRow (a .row) (Ternary (a .d)) 2) 0) ∷ [])) _ (at-first (word (childRow (a .row) (Ternary (a .d)) 1) 0) ((word (childRow (a .row) (Ternary (a .d)) 2) 0) ∷ []))) (st .pre .0), found-first (k2 .child-row2 .ensures) (found-asks (k1 .child-row .ensures) (n1 .node-walk .ensures) (was-read _ (t1 .taken-apart .ensures) (o1 .c1 .given .1)) (st .pre .1)))
 
@@ -588,13 +581,11 @@ three-walk-returns-2 : (t : ℕ) → three-walk-lts.Need-returns-2 (three-claims
 three-walk-returns-2 t c =
     let t2 = c .before .before in
     let n2 = t2 .before in
-    let k2 = n2 .before in
-    let o1 = k2 .before .before .before in
+    let k2 = n2 .before .before in
+    let o1 = k2 .before .before in
     let t1 = o1 .before .before in
     let n1 = t1 .before in
-    let k1 = n1 .before in
-    let st = k1 .before .before .before in
-    let a = st .args in
+    let k1 = n1 .before .before in
     found-rest (k1 .child-row .ensures) (n1 .node-walk .ensures) (was-read _ (t1 .taken-apart .ensures) (o1 .c1 .given .1)) (found-stop (k2 .child-row2 .ensures) (n2 .node-walk2 .ensures) (was-refused _ (t2 .taken-apart2 .ensures) (c .enum-told2 .given .1)))
 
 three-walk-child-row-requires-3 : (t : ℕ) → three-walk-lts.Need-child-row-requires-3 (three-claims t) (three-walk-at t) three-walk.Post
@@ -602,32 +593,30 @@ three-walk-child-row-requires-3 t c κs = search needs
 
 three-walk-node-walk-requires-3 : (t : ℕ) → three-walk-lts.Need-node-walk-requires-3 (three-claims t) (three-walk-at t) three-walk.Post
 three-walk-node-walk-requires-3 t c κs =
-    let k3 = c in
-    let o2 = k3 .before .before .before in
+    let k3 = c .before in
+    let o2 = k3 .before .before in
     let t2 = o2 .before .before in
     let n2 = t2 .before in
-    let k2 = n2 .before in
-    let o1 = k2 .before .before .before in
+    let k2 = n2 .before .before in
+    let o1 = k2 .before .before in
     let t1 = o1 .before .before in
     let n1 = t1 .before in
-    let k1 = n1 .before in
-    let st = k1 .before .before .before in
+    let k1 = n1 .before .before in
+    let st = k1 .before .before in
     let a = st .args in
     (part-falls (threeWords (a .row) (a .d) 0 0) (childRow (a .row) (Ternary (a .d)) 2) (k3 .child-row3 .ensures) (before-more (word (childRow (a .row) (Ternary (a .d)) 0) 0) ((word (childRow (a .row) (Ternary (a .d)) 1) 0) ∷ ((word (childRow (a .row) (Ternary (a .d)) 2) 0) ∷ [])) _ (at-later (word (childRow (a .row) (Ternary (a .d)) 1) 0) ((word (childRow (a .row) (Ternary (a .d)) 2) 0) ∷ []) _ (at-first (word (childRow (a .row) (Ternary (a .d)) 2) 0) []))) (st .pre .0), found-first (k3 .child-row3 .ensures) (found-asks (k2 .child-row2 .ensures) (n2 .node-walk2 .ensures) (was-read _ (t2 .taken-apart2 .ensures) (o2 .c2 .given .1)) (found-asks (k1 .child-row .ensures) (n1 .node-walk .ensures) (was-read _ (t1 .taken-apart .ensures) (o1 .c1 .given .1)) (st .pre .1))))
 
 three-walk-returns-3 : (t : ℕ) → three-walk-lts.Need-returns-3 (three-claims t) (three-walk-at t) three-walk.Post
 three-walk-returns-3 t c =
-    let k3 = c .before in
-    let o2 = k3 .before .before .before in
+    let k3 = c .before .before in
+    let o2 = k3 .before .before in
     let t2 = o2 .before .before in
     let n2 = t2 .before in
-    let k2 = n2 .before in
-    let o1 = k2 .before .before .before in
+    let k2 = n2 .before .before in
+    let o1 = k2 .before .before in
     let t1 = o1 .before .before in
     let n1 = t1 .before in
-    let k1 = n1 .before in
-    let st = k1 .before .before .before in
-    let a = st .args in
+    let k1 = n1 .before .before in
     found-rest (k1 .child-row .ensures) (n1 .node-walk .ensures) (was-read _ (t1 .taken-apart .ensures) (o1 .c1 .given .1)) (found-rest (k2 .child-row2 .ensures) (n2 .node-walk2 .ensures) (was-read _ (t2 .taken-apart2 .ensures) (o2 .c2 .given .1)) (as-found (k3 .child-row3 .ensures) (c .node-walk3 .ensures)))
 
 two-walk-child-row-requires : (t : ℕ) → two-walk-lts.Need-child-row-requires (two-claims t) (two-walk-at t) two-walk.Post
@@ -635,8 +624,8 @@ two-walk-child-row-requires t c κs = search needs
 
 two-walk-node-walk-requires : (t : ℕ) → two-walk-lts.Need-node-walk-requires (two-claims t) (two-walk-at t) two-walk.Post
 two-walk-node-walk-requires t c κs =
-    let k1 = c in
-    let st = k1 .before .before .before in
+    let k1 = c .before in
+    let st = k1 .before .before in
     let a = st .args in
     (part-falls (twoWords (a .row) (a .d) 0) (childRow (a .row) (Binary (a .d)) 0) (k1 .child-row .ensures) (at-first-of (word (childRow (a .row) (Binary (a .d)) 0) 0) (word (childRow (a .row) (Binary (a .d)) 1) 0) []) (st .pre .0), found-first (k1 .child-row .ensures) (st .pre .1))
 
@@ -653,9 +642,7 @@ two-walk-returns : (t : ℕ) → two-walk-lts.Need-returns (two-claims t) (two-w
 two-walk-returns t c =
     let t1 = c .before .before in
     let n1 = t1 .before in
-    let k1 = n1 .before in
-    let st = k1 .before .before .before in
-    let a = st .args in
+    let k1 = n1 .before .before in
     found-stop (k1 .child-row .ensures) (n1 .node-walk .ensures) (was-refused _ (t1 .taken-apart .ensures) (c .enum-told .given .1))
 
 two-walk-child-row-requires-2 : (t : ℕ) → two-walk-lts.Need-child-row-requires-2 (two-claims t) (two-walk-at t) two-walk.Post
@@ -663,24 +650,22 @@ two-walk-child-row-requires-2 t c κs = search needs
 
 two-walk-node-walk-requires-2 : (t : ℕ) → two-walk-lts.Need-node-walk-requires-2 (two-claims t) (two-walk-at t) two-walk.Post
 two-walk-node-walk-requires-2 t c κs =
-    let k2 = c in
-    let o1 = k2 .before .before .before in
+    let k2 = c .before in
+    let o1 = k2 .before .before in
     let t1 = o1 .before .before in
     let n1 = t1 .before in
-    let k1 = n1 .before in
-    let st = k1 .before .before .before in
+    let k1 = n1 .before .before in
+    let st = k1 .before .before in
     let a = st .args in
     (part-falls (twoWords (a .row) (a .d) 0) (childRow (a .row) (Binary (a .d)) 1) (k2 .child-row2 .ensures) (at-later (word (childRow (a .row) (Binary (a .d)) 0) 0) ((word (childRow (a .row) (Binary (a .d)) 1) 0) ∷ []) _ (at-first (word (childRow (a .row) (Binary (a .d)) 1) 0) [])) (st .pre .0), found-first (k2 .child-row2 .ensures) (found-asks (k1 .child-row .ensures) (n1 .node-walk .ensures) (was-read _ (t1 .taken-apart .ensures) (o1 .c1 .given .1)) (st .pre .1)))
 
 two-walk-returns-2 : (t : ℕ) → two-walk-lts.Need-returns-2 (two-claims t) (two-walk-at t) two-walk.Post
 two-walk-returns-2 t c =
-    let k2 = c .before in
-    let o1 = k2 .before .before .before in
+    let k2 = c .before .before in
+    let o1 = k2 .before .before in
     let t1 = o1 .before .before in
     let n1 = t1 .before in
-    let k1 = n1 .before in
-    let st = k1 .before .before .before in
-    let a = st .args in
+    let k1 = n1 .before .before in
     found-rest (k1 .child-row .ensures) (n1 .node-walk .ensures) (was-read _ (t1 .taken-apart .ensures) (o1 .c1 .given .1)) (as-found (k2 .child-row2 .ensures) (c .node-walk2 .ensures))
 
 pub +children-walk+four-walk+node-walk+three-walk+two-walk-spec : {M : Type 1} → statement M
