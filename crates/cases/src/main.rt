@@ -1,5 +1,5 @@
-// Runs document 01's cases on the proved functions, and prints the tables that they give. The expected output, `stdout`,
-// is written from the paper.
+// Runs document 01's cases on the proved functions, and prints the tables that they give.
+// The expected output, `stdout`, is written from the paper.
 use libc::STDOUT_FILENO;
 use settings::Count;
 use settings::Located;

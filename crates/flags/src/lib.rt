@@ -76,7 +76,8 @@ fn split_flag(flags: &[u8], at: usize, out: bool, splits: u32) -> Flag
     read_flag(flags, at, !out & open, out)
 }
 
-// Where a node lies plays no part in the next three flags: their contracts hold for one in the picture and for one that is out.
+// Where a node lies plays no part in the next three flags: their contracts hold for one in the picture and for one
+// that is out.
 fn quad_flag(flags: &[u8], at: usize, splits: u32) -> Flag
     ensures { λ r. ⌜ ((out : Bool) → r ≡ quadFlag (rightsIn out splits) (now (flags .entry)) at) ⌝ }
 {
@@ -171,7 +172,8 @@ fn after_split(flags: &[u8], splits: u32, f: Flag) -> Choice
     }
 }
 
-// The decision that the flags from a place on give at a node, by its open splits and whether it is out of the picture; and the next place.
+// The decision that the flags from a place on give at a node, by its open splits and whether it is out of the
+// picture; and the next place.
 pub fn decide(flags: &[u8], at: usize, out: bool, splits: u32) -> Choice
     ensures { λ r. ⌜ r ≡ Flags.decide (rightsIn out splits) (now (flags .entry)) at ⌝ }
 {

@@ -4,6 +4,7 @@ use crate::fields::limits_of;
 use crate::fields::mtt_depth;
 use crate::fields::node_of;
 use crate::fields::width;
+use crate::masks::Table;
 use tree::Decision;
 use tree::Direction;
 ghost use mathlib.Core.Path.{_≡_};
@@ -25,7 +26,8 @@ fn fall(size: u32) -> u64
     }
 }
 
-// What a child adds to its parent's depths in the row's number: 1 to the QT depth under a quad split, else 1 to the MTT depth.
+// What a child adds to its parent's depths in the row's number: 1 to the QT depth under a quad split, else 1 to the
+// MTT depth.
 fn deeper(d: Decision) -> u64
     ensures { λ r. ⌜ (r ≡ Words.deeper d) × (281474976710656 ≤ r) × (r ≤ 72057594037927936) ⌝ }
 {
@@ -67,21 +69,21 @@ pub fn child_row(row: u64, d: Decision, i: u32) -> u64
 }
 
 // M, the bound of the MTT depth.
-fn depth_bound(u: &[u32; 20]) -> u32
+fn depth_bound(u: &Table) -> u32
     ensures { λ r. ⌜ r ≡ limitsIn (now (u .entry)) .maxmtt ⌝ }
 {
     u[2]
 }
 
 // What is left to a child above all cuts: QT, and the cuts where M is not 0.
-fn kept_above(u: &[u32; 20], out: bool) -> u32
+fn kept_above(u: &Table, out: bool) -> u32
     ensures { λ r. ⌜ r ≡ keptAbove (now (u .entry)) out ⌝ }
 {
     splits::bit(0 < depth_bound(u), 30) + 1 + splits::bit(out, 32)
 }
 
 // What is left to a part of a cut: these cuts where its depth is below M + F, and never QT.
-fn kept_below(u: &[u32; 20], row: u64, offset: u32, out: bool, cuts: u32) -> u32
+fn kept_below(u: &Table, row: u64, offset: u32, out: bool, cuts: u32) -> u32
     requires { ⌜ cuts < 32 ⌝ }
     ensures { λ r. ⌜ r ≡ keptBelow (now (u .entry)) row offset out cuts ⌝ }
 {
@@ -104,7 +106,7 @@ fn cuts_of(d: Direction, i: u32) -> u32
 }
 
 // What a binary cut adds to the offset F of its parts.
-fn lift(u: &[u32; 20], row: u64, kept: u32, out: bool, d: Direction) -> u32
+fn lift(u: &Table, row: u64, kept: u32, out: bool, d: Direction) -> u32
     ensures { λ r. ⌜ (r ≡ Splits.bit out (Words.liftIn (now (u .entry)) row kept d)) × (r ≤ 1) ⌝ }
 {
     if out {
@@ -115,7 +117,7 @@ fn lift(u: &[u32; 20], row: u64, kept: u32, out: bool, d: Direction) -> u32
 }
 
 // What is left to a child, from its parent's numbers, whether the parent is out, the decision, and the part's number.
-pub fn kept_under(u: &[u32; 20], row: u64, kept: u32, out: bool, d: Decision, i: u32) -> u32
+pub fn kept_under(u: &Table, row: u64, kept: u32, out: bool, d: Decision, i: u32) -> u32
     ensures { λ r. ⌜ r ≡ keptUnder (now (u .entry)) row kept out d i ⌝ }
 {
     match d {

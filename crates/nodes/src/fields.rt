@@ -1,4 +1,5 @@
 // The fields of a row number, and the node and the limits that numbers stand for.
+use crate::masks::Table;
 use tree::Decision;
 use tree::Limits;
 use tree::Node;
@@ -8,7 +9,7 @@ ghost use Rattle.nodes.specs.Tables.{limitsIn};
 ghost use Rattle.nodes.specs.Words.{nodeIn};
 
 // A side of at most 128, from its exponent.
-pub fn side(e: u32) -> u32
+pub(crate) fn side(e: u32) -> u32
     requires { ⌜ e < 8 ⌝ }
     ensures { λ r. ⌜ r ≡ 2 ^ e ⌝ }
 {
@@ -16,39 +17,39 @@ pub fn side(e: u32) -> u32
 }
 
 // The exponents of a row's sides: those of a tree's nodes are at most 7.
-pub fn width_exponent(row: u64) -> u32
+pub(crate) fn width_exponent(row: u64) -> u32
     ensures { λ r. ⌜ (r ≡ row / 4294967296 % 8) × (r < 8) ⌝ }
 {
     (row / 4294967296 % 8) as u32
 }
 
-pub fn height_exponent(row: u64) -> u32
+pub(crate) fn height_exponent(row: u64) -> u32
     ensures { λ r. ⌜ (r ≡ row / 1099511627776 % 8) × (r < 8) ⌝ }
 {
     (row / 1099511627776 % 8) as u32
 }
 
-pub fn mtt_depth(row: u64) -> u32
+pub(crate) fn mtt_depth(row: u64) -> u32
     ensures { λ r. ⌜ (r ≡ row / 72057594037927936 % 256) × (r < 256) ⌝ }
 {
     (row / 72057594037927936 % 256) as u32
 }
 
 // The sides that a row says.
-pub fn width(row: u64) -> u32
+pub(crate) fn width(row: u64) -> u32
     ensures { λ r. ⌜ r ≡ 2 ^ (row / 4294967296 % 8) ⌝ }
 {
     side(width_exponent(row))
 }
 
-pub fn height(row: u64) -> u32
+pub(crate) fn height(row: u64) -> u32
     ensures { λ r. ⌜ r ≡ 2 ^ (row / 1099511627776 % 8) ⌝ }
 {
     side(height_exponent(row))
 }
 
 // The node of two numbers, but for its part and its parent.
-pub fn node_of(row: u64, kept: u32) -> Node
+pub(crate) fn node_of(row: u64, kept: u32) -> Node
     ensures { λ r. ⌜ r ≡ nodeIn row kept ⌝ }
 {
     Node {
@@ -65,7 +66,7 @@ pub fn node_of(row: u64, kept: u32) -> Node
 }
 
 // The limits that a table begins with.
-pub fn limits_of(u: &[u32; 20]) -> Limits
+pub(crate) fn limits_of(u: &Table) -> Limits
     ensures { λ r. ⌜ r ≡ limitsIn (now (u .entry)) ⌝ }
 {
     Limits {

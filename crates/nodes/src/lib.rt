@@ -7,6 +7,7 @@ mod picture;
 
 pub use children::child_row;
 pub use children::kept_under;
+pub use masks::Table;
 pub use masks::tables;
 pub use picture::open_splits;
 pub use picture::out;

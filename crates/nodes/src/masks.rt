@@ -10,6 +10,9 @@ ghost use mathlib.Core.Path.{_≡_};
 ghost use Rattle.tree.specs.Splits.{sameDirection};
 ghost use Rattle.nodes.specs.Tables.{sideRights, sideMask, tableOf};
 
+// The limits of a tree, a zero, and the masks of the widths and of the heights 4 to 128.
+pub type Table = [u32; 20];
+
 fn same(d: Direction, e: Direction) -> bool
     ensures { λ r. ⌜ r ≡ sameDirection d e ⌝ }
 {
@@ -25,7 +28,8 @@ fn same(d: Direction, e: Direction) -> bool
     }
 }
 
-// Whether a side lets a cut of direction d open: the side is the height where e is horizontal, the width where it is vertical.
+// Whether a side lets a cut of direction d open: the side is the height where e is horizontal, the width where it is
+// vertical.
 fn binary_by(l: Limits, e: Direction, s: u32, d: Direction) -> bool
     ensures { λ r. ⌜ r ≡ sideRights e l s .binary d ⌝ }
 {
@@ -63,8 +67,8 @@ fn side_mask(l: Limits, e: Direction, s: u32) -> u32
         + splits::bit(ternary_by(l, e, s, Direction::Vertical), TV)
 }
 
-// The limits, and the masks of the widths and of the heights 4 to 128.
-pub fn tables(l: Limits) -> [u32; 20]
+// The table of a tree with these limits.
+pub fn tables(l: Limits) -> Table
     ensures { λ r. ⌜ r ≡ tableOf l ⌝ }
 {
     [

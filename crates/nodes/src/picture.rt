@@ -3,6 +3,7 @@ use crate::fields::height_exponent;
 use crate::fields::limits_of;
 use crate::fields::node_of;
 use crate::fields::width_exponent;
+use crate::masks::Table;
 ghost use mathlib.Core.Path.{_≡_};
 ghost use Rattle.nodes.specs.Words.{mayReachPast, skips, reachesOut, openIn};
 
@@ -14,7 +15,7 @@ fn may_reach_past(kept: u32) -> bool
 }
 
 // Whether a node is skipped, since its corner is outside the picture.
-pub fn skipped(u: &[u32; 20], row: u64, kept: u32) -> bool
+pub fn skipped(u: &Table, row: u64, kept: u32) -> bool
     ensures { λ r. ⌜ r ≡ skips (now (u .entry)) row kept ⌝ }
 {
     if may_reach_past(kept) {
@@ -25,7 +26,7 @@ pub fn skipped(u: &[u32; 20], row: u64, kept: u32) -> bool
 }
 
 // Whether a node is out of the picture, at the right or at the bottom.
-pub fn out(u: &[u32; 20], row: u64, kept: u32) -> bool
+pub fn out(u: &Table, row: u64, kept: u32) -> bool
     ensures { λ r. ⌜ r ≡ reachesOut (now (u .entry)) row kept ⌝ }
 {
     if may_reach_past(kept) {
@@ -36,7 +37,7 @@ pub fn out(u: &[u32; 20], row: u64, kept: u32) -> bool
 }
 
 // The open splits of a node: by the rules where it may reach past the picture, else by the masks of its sides.
-pub fn open_splits(u: &[u32; 20], row: u64, kept: u32) -> u32
+pub fn open_splits(u: &Table, row: u64, kept: u32) -> u32
     ensures { λ r. ⌜ r ≡ openIn (now (u .entry)) row kept ⌝ }
 {
     if may_reach_past(kept) {

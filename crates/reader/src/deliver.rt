@@ -1,5 +1,6 @@
 // The end of a reading: refusals 13 and 14, or its rows in the lent buffer. Nothing is written before both are passed.
 use crate::state::Child;
+use crate::state::Scratch;
 use crate::state::count;
 use crate::state::place;
 use crate::state::refusal_number;
@@ -9,7 +10,7 @@ use tree::Node;
 use unit::Answer;
 ghost use mathlib.Core.Path.{_≡_};
 ghost use mathlib.Core.List.{_++_};
-ghost use Prim.Native.Nat.{ℕ, _*_, _≤_, _<_};
+ghost use Prim.Native.Nat.{_*_, _≤_, _<_};
 ghost use lib.ListN.{length, take, drop};
 ghost use Rattle.unit.specs.Answers.{Meets};
 ghost use Rattle.reader.specs.Walking.{countOf};
@@ -28,7 +29,7 @@ fn copy(rows: &mut [u8], from: &[u8], n: usize)
 }
 
 // Whether the first flag, or the lack of an open split, makes a root a leaf.
-pub fn is_leaf(out: bool, splits: u32, flags: &[u8]) -> bool
+pub(crate) fn is_leaf(out: bool, splits: u32, flags: &[u8]) -> bool
     ensures { λ r. ⌜ r ≡ leafFirst out splits (now (flags .entry)) ⌝ }
 {
     if out {
@@ -45,14 +46,14 @@ pub fn is_leaf(out: bool, splits: u32, flags: &[u8]) -> bool
 }
 
 // The flags that a leaf has, 1 where some split is open.
-pub fn leaf_flags(splits: u32) -> usize
+pub(crate) fn leaf_flags(splits: u32) -> usize
     ensures { λ r. ⌜ r ≡ leafFlags splits ⌝ }
 {
     if splits == 0 { 0 } else { 1 }
 }
 
 // The reading of a root that is a leaf, its flags ending before a place.
-pub fn one_row(root: Node, next: usize, flags: &[u8], rows: &mut [u8]) -> Answer
+pub(crate) fn one_row(root: Node, next: usize, flags: &[u8], rows: &mut [u8]) -> Answer
     ensures { λ r. ⌜ Meets (deliverOne root next (now (flags .entry)) (now (rows .entry))) r (now (rows .exit)) ⌝ }
 {
     if next < flags.len() {
@@ -66,7 +67,7 @@ pub fn one_row(root: Node, next: usize, flags: &[u8], rows: &mut [u8]) -> Answer
 }
 
 // The reading that a walk answered, its rows in a scratch table.
-pub fn all_rows(answer: u64, scratch: &[u8; 8192], flags: &[u8], rows: &mut [u8]) -> Answer
+pub(crate) fn all_rows(answer: u64, scratch: &Scratch, flags: &[u8], rows: &mut [u8]) -> Answer
     requires { ⌜ (answer < 9223372036854775808 → countOf answer ≤ 1024) ⌝ }
     ensures { λ r. ⌜ Meets (deliverAll answer (now (scratch .entry)) (now (flags .entry)) (now (rows .entry))) r (now (rows .exit)) ⌝ }
 {

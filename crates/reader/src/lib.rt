@@ -9,7 +9,6 @@ use tree::Decision;
 use tree::Limits;
 use tree::Node;
 use unit::Answer;
-ghost use mathlib.Core.Path.{_≡_};
 ghost use Rattle.tree.specs.Kind.{luma};
 ghost use Rattle.unit.specs.Answers.{Meets};
 ghost use Rattle.unit.specs.Reader.{readTree, readUnit};
@@ -42,8 +41,8 @@ fn read_tree(l: Limits, root: Node, flags: &[u8], rows: &mut [u8]) -> Answer
     }
 }
 
-// Reads the flags of the unit at an address: the number of its rows, which are then the first bytes of the row buffer, or a refusal,
-// which leaves the buffer as it was.
+// Reads the flags of the unit at an address: answers the number of its rows, which are then the first bytes of the
+// row buffer, or a refusal, which leaves the buffer as it was.
 pub fn read_unit(s: Settings, address: usize, flags: &[u8], rows: &mut [u8]) -> Answer
     ensures { λ r. ⌜ Meets (readUnit s address (now (flags .entry)) (now (rows .entry))) r (now (rows .exit)) ⌝ }
 {

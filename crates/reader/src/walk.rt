@@ -1,27 +1,26 @@
 // The walk of a node and the walk of its children call each other: flags become rows in a scratch table.
 // A node is its two numbers (crate nodes); the children of each kind of split are written out.
 use crate::state::Child;
+use crate::state::Scratch;
 use crate::state::count;
 use crate::state::earlier;
 use crate::state::going;
 use crate::state::place;
 use crate::state::stopping;
 use crate::state::taken_apart;
+use nodes::Table;
 use tree::Choice;
 use tree::Decision;
 use tree::Direction;
-ghost use mathlib.Core.Path.{_≡_};
 ghost use mathlib.Core.List.{[], _∷_};
-ghost use Prim.Native.Nat.{ℕ, _≤_, _<_};
-ghost use Rattle.nodes.specs.Words.{childRow};
 ghost use Rattle.nodes.specs.Stands.{word, fourWords, twoWords, threeWords, kidWords};
 ghost use Rattle.reader.specs.Walking.{Asked, Walked};
 
 // Reads a node. A node whose corner is outside the picture is skipped.
-pub fn node_walk(
-    u: &[u32; 20],
+pub(crate) fn node_walk(
+    u: &Table,
     flags: &[u8],
-    rows: &mut [u8; 8192],
+    rows: &mut Scratch,
     c: u64,
     row: u64,
     kept: u32,
@@ -56,10 +55,10 @@ pub fn node_walk(
 }
 
 // Reads the children of a decision, in coding order.
-pub fn children_walk(
-    u: &[u32; 20],
+pub(crate) fn children_walk(
+    u: &Table,
     flags: &[u8],
-    rows: &mut [u8; 8192],
+    rows: &mut Scratch,
     c: u64,
     row: u64,
     kept: u32,
@@ -88,10 +87,10 @@ pub fn children_walk(
 }
 
 // The four children of a quad split.
-pub fn four_walk(
-    u: &[u32; 20],
+pub(crate) fn four_walk(
+    u: &Table,
     flags: &[u8],
-    rows: &mut [u8; 8192],
+    rows: &mut Scratch,
     c: u64,
     row: u64,
     kept: u32,
@@ -119,10 +118,10 @@ pub fn four_walk(
 }
 
 // The two parts of a binary split.
-pub fn two_walk(
-    u: &[u32; 20],
+pub(crate) fn two_walk(
+    u: &Table,
     flags: &[u8],
-    rows: &mut [u8; 8192],
+    rows: &mut Scratch,
     c: u64,
     row: u64,
     d: Direction,
@@ -141,10 +140,10 @@ pub fn two_walk(
 }
 
 // The three parts of a ternary split; the middle one keeps less.
-pub fn three_walk(
-    u: &[u32; 20],
+pub(crate) fn three_walk(
+    u: &Table,
     flags: &[u8],
-    rows: &mut [u8; 8192],
+    rows: &mut Scratch,
     c: u64,
     row: u64,
     d: Direction,
