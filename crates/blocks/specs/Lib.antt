@@ -1,2 +1,3 @@
+pub mod Copies
 pub mod Table
 pub mod Words

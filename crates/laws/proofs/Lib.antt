@@ -1,4 +1,7 @@
 pub mod Areas
+pub mod BackBounds
+pub mod BackRefusals
+pub mod BackSteps
 pub mod Backs
 pub mod Bounds
 pub mod Bytes

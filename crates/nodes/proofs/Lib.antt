@@ -8,3 +8,11 @@ pub mod Rules
 pub mod SideRules
 pub mod Seen
 pub mod Stands
+pub mod Stores
+pub mod Lawful
+pub mod Chains
+pub mod Lists
+pub mod Apart
+pub mod Measure
+pub mod KidWords
+pub mod Roots

@@ -5,7 +5,9 @@ use crate::fields::node_of;
 use crate::fields::width_exponent;
 use crate::masks::Table;
 ghost use mathlib.Core.Path.{_≡_};
-ghost use Rattle.nodes.specs.Words.{mayReachPast, skips, reachesOut, openIn};
+ghost use Rattle.tree.specs.Splits.{bottomOut};
+ghost use Rattle.nodes.specs.Tables.{limitsIn};
+ghost use Rattle.nodes.specs.Words.{nodeIn, mayReachPast, skips, reachesOut, openIn};
 
 // Whether a node may reach past the picture: a root, and a child of a node that is out.
 fn may_reach_past(kept: u32) -> bool
@@ -34,6 +36,13 @@ pub fn out(u: &Table, row: u64, kept: u32) -> bool
     } else {
         false
     }
+}
+
+// Whether a node is out of the picture at the bottom.
+pub fn bottom_out(u: &Table, row: u64) -> bool
+    ensures { λ r. ⌜ r ≡ bottomOut (limitsIn (now (u .entry))) (nodeIn row 0) ⌝ }
+{
+    splits::bottom_out(limits_of(u), node_of(row, 0))
 }
 
 // The open splits of a node: by the rules where it may reach past the picture, else by the masks of its sides.

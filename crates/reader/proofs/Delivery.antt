@@ -17,20 +17,22 @@ use Rattle.tree.specs.Rows.{Row, tableBytes}
 use Rattle.tree.specs.Run.{Run, End, goes, stops}
 use Rattle.tree.specs.Splits.{Rights, bit, openSplits}
 use Rattle.tree.specs.Flags.{someOpen, flagAt, afterSplit, decide}
+use Rattle.blocks.proofs.Pastes.{sets-front}
 use Rattle.unit.specs.declared.Answer.the-variants.{Accepted}
 use Rattle.unit.specs.Answers.{Outcome, refused, deliver, finishEnd, finish}
 use Rattle.unit.specs.Reader.{noneAfter}
-use Rattle.reader.specs.Walking.{going, stopping, countOf, numberOf, refusedAt, ending, Done}
+use Rattle.nodes.specs.State.{going, stopping, countOf, numberOf, refusedAt}
+use Rattle.nodes.specs.Walks.{ending, Done}
+use Rattle.nodes.proofs.Chains.{going-place, going-count}
+use Rattle.reader.specs.Walking.{readWay}
 use Rattle.reader.specs.Delivery.{leafFirst, deliverAll}
-use Rattle.reader.proofs.Chains.{going-place, going-count}
-use Rattle.reader.proofs.Copies.{sets-front}
 use Rattle.reader.proofs.Rows.{table-length}
 
 -- ---- the number of an end, from the first row on
 
-module _ (run : Run Row ℕ) {b z : List ℕ} {answer : ℕ} (done : Done run 0 b answer z) (few : 16 * length (run .given) ≤ 16384) where
-  said-from : (end : End ℕ) → run .end ≡ end → answer ≡ ending (length (run .given)) end
-  said-from end e = done .said ∙ ap (λ (i : ℕ). ending i (run .end)) (omega arith) ∙ ap (ending (length (run .given))) e
+module _ (flags : List ℕ) (run : Run Row ℕ) {b z : List ℕ} {answer : ℕ} (done : Done (readWay flags) run 0 b answer z) (few : 16 * length (run .given) ≤ 16384) where
+  said-from : (end : End ℕ) → run .end ≡ end → answer ≡ ending (readWay flags) (length (run .given)) end
+  said-from end e = done .said ∙ ap (λ (i : ℕ). ending (readWay flags) i (run .end)) (omega arith) ∙ ap (ending (readWay flags) (length (run .given))) e
 
   -- the rows so far, where the walk was not refused
   pub count-small : answer < 9223372036854775808 → countOf answer ≤ 1024
@@ -45,7 +47,7 @@ module _ (run : Run Row ℕ) {b z : List ℕ} {answer : ℕ} (done : Done run 0 
   front : length b ≡ 8192 → take (length (run .given) * 8) z ≡ tableBytes (run .given)
   front len =
       let l = table-length (run .given) in
-      ap (take (length (run .given) * 8)) (done .rows)
+      ap (take (length (run .given) * 8)) (done .given)
       ∙ ap (λ (i : ℕ). take i (sets b 0 (tableBytes (run .given)))) (sym l)
       ∙ sets-front b (tableBytes (run .given)) (omega arith)
 
@@ -59,7 +61,7 @@ module _ (flags b : List ℕ) (at count : ℕ) where
       (cond (ltb (length b) (count * 8)) (refused 14 count b)
       (record { answer = Accepted count; buffer = take (count * 8) z ++ drop (count * 8) b }))
 
-  going-sent : (z : List ℕ) → at ≤ 65536 → count < 2048 → deliverAll (going at count) z flags b ≡ sent z
+  going-sent : (z : List ℕ) → at ≤ 65536 → count < 16384 → deliverAll (going at count) z flags b ≡ sent z
   unfolding deliverAll
   going-sent z p c = rw (going-place at count c, going-count at count c, lt-ltb (going at count) 9223372036854775808 (omega arith))
 
@@ -84,23 +86,23 @@ stopping-sent flags b z k p h q =
     rw (le-ltb (stopping k p) 9223372036854775808 (omega arith), stopping-number k p h, stopping-place k p h q)
 
 -- the number that a walk of a whole tree answers, delivered, is the reading's end
-pub all-is : (run : Run Row ℕ) {b z : List ℕ} {answer : ℕ} → Done run 0 b answer z → 16 * length (run .given) ≤ 16384 → length b ≡ 8192
+pub all-is : (flags : List ℕ) (run : Run Row ℕ) {b z : List ℕ} {answer : ℕ} → Done (readWay flags) run 0 b answer z → 16 * length (run .given) ≤ 16384 → length b ≡ 8192
     → ((place : ℕ) → run .end ≡ goes place → place ≤ 65536)
     → ((number place : ℕ) → run .end ≡ stops number place → (number < 32) × (place < 288230376151711744))
-    → (flags buffer : List ℕ)
+    → (buffer : List ℕ)
     → deliverAll answer z flags buffer ≡ finish tableBytes 14 (record { given = run .given; end = noneAfter flags (run .end) }) buffer
 unfolding ending noneAfter finishEnd
-all-is run {b} {z} {answer} done few len near small flags buffer = go (run .end) refl
+all-is flags run {b} {z} {answer} done few len near small buffer = go (run .end) refl
   where
     go : (end : End ℕ) → run .end ≡ end → deliverAll answer z flags buffer ≡ finish tableBytes 14 (record { given = run .given; end = noneAfter flags (run .end) }) buffer
     go (goes at) e =
         rw e
-        (ap (λ (a : ℕ). deliverAll a z flags buffer) (said-from run done few (goes at) e)
+        (ap (λ (a : ℕ). deliverAll a z flags buffer) (said-from flags run done few (goes at) e)
         ∙ going-sent flags buffer at (length (run .given)) z (near at e) (omega arith)
-        ∙ sent-is flags buffer at (length (run .given)) (tableBytes (run .given)) (table-length (run .given)) z (front run done few len))
+        ∙ sent-is flags buffer at (length (run .given)) (tableBytes (run .given)) (table-length (run .given)) z (front flags run done few len))
     go (stops k p) e =
         let s = small k p e in
-        rw e (ap (λ (a : ℕ). deliverAll a z flags buffer) (said-from run done few (stops k p) e) ∙ stopping-sent flags buffer z k p (s .0) (s .1))
+        rw e (ap (λ (a : ℕ). deliverAll a z flags buffer) (said-from flags run done few (stops k p) e) ∙ stopping-sent flags buffer z k p (s .0) (s .1))
 
 -- ---- a root that is a leaf by its first flag
 

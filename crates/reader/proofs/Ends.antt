@@ -2,24 +2,26 @@
 use Prim.Native.Nat.{ℕ, _*_, _≤_, _<_}
 use mathlib.Core.Path.{_≡_, refl, sym, ap, _∙_, subst}
 use mathlib.Core.Bool.{Bool, true, false, cond}
-use mathlib.Core.List.{List, _++_}
+use mathlib.Core.List.{List}
 use native.Mathlib.Omega.{arith}
 use lib.Dec.{ltb}
-use lib.ListN.{length, take, drop}
+use lib.ListN.{length}
 use lib.Seq.{sets, sets-eq}
 use borrow.Author.Tests.{lt-ltb, le-ltb, ltb-true, leb-true, leb-false}
 use denote.Enum
 use Rattle.tree.specs.declared.Node.{Node}
 use Rattle.tree.specs.Rows.{rowOf, rowBytes, tableBytes}
+use Rattle.blocks.specs.Copies.{copied}
 use Rattle.blocks.specs.Words.{rowWord, wordBytes, putWord, Put}
+use Rattle.blocks.proofs.Pastes.{copied-all}
 use Rattle.blocks.proofs.Words.{word-bytes}
 use Rattle.unit.specs.declared.Answer.the-variants.{Accepted, Refused}
 use Rattle.unit.specs.Answers.{Meets, deliver, finishEnd}
 use Rattle.unit.specs.Reader.{noneAfter}
-use Rattle.reader.specs.declared.state.Child.{Child}
-use Rattle.reader.specs.declared.state.Child.the-variants as child
-use Rattle.reader.proofs.state.Child as C
-use Rattle.reader.specs.Walking.{placeOf, countOf, numberOf, refusedAt}
+use Rattle.nodes.specs.declared.state.Child.{Child}
+use Rattle.nodes.specs.declared.state.Child.the-variants as child
+use Rattle.nodes.proofs.state.Child as C
+use Rattle.nodes.specs.State.{placeOf, countOf, numberOf, refusedAt}
 use Rattle.reader.specs.Delivery.{deliverOne, deliverAll}
 
 -- ---- a root that is a leaf
@@ -49,19 +51,19 @@ module _ (root : Node) (next : ℕ) (flags b : List ℕ) where
 -- ---- the number that a walk answers
 
 -- taken apart by a test
-read-only : (t : Bool) (answer end : ℕ) → cond t (child.Read answer) (child.Refused answer) ≡ child.Read end → (t ≡ true) × (end ≡ answer)
+read-only : (t : Bool) (answer end : ℕ) → cond t (child.Walked answer) (child.Refused answer) ≡ child.Walked end → (t ≡ true) × (end ≡ answer)
 read-only true answer end e = (refl, sym (ap inside e))
   where
     inside : Child → ℕ
-    inside (child.Read c) = c
+    inside (child.Walked c) = c
     inside (child.Refused c) = c
 read-only false answer end e = let f = ap (denote.Enum.Declared.tagOf C.the-type) e in absurd (omega arith)
 
-refused-only : (t : Bool) (answer : ℕ) → denote.Enum.Declared.tagOf C.the-type (cond t (child.Read answer) (child.Refused answer)) ≡ 1 → t ≡ false
+refused-only : (t : Bool) (answer : ℕ) → denote.Enum.Declared.tagOf C.the-type (cond t (child.Walked answer) (child.Refused answer)) ≡ 1 → t ≡ false
 refused-only true answer e = absurd (omega arith)
 refused-only false answer e = refl
 
-module _ (answer : ℕ) (w : Child) (apart : w ≡ cond (ltb answer 9223372036854775808) (child.Read answer) (child.Refused answer)) (scratch flags b : List ℕ) where
+module _ (answer : ℕ) (w : Child) (apart : w ≡ cond (ltb answer 9223372036854775808) (child.Walked answer) (child.Refused answer)) (scratch flags b : List ℕ) where
   pub all-stop : denote.Enum.Declared.tagOf C.the-type w ≡ 1 → (number place : ℕ) → number ≡ numberOf answer → place ≡ refusedAt answer
       → Meets (deliverAll answer scratch flags b) (Refused number place) b
   unfolding deliverAll
@@ -69,7 +71,7 @@ module _ (answer : ℕ) (w : Child) (apart : w ≡ cond (ltb answer 922337203685
       let h = refused-only (ltb answer 9223372036854775808) answer (sym (ap (denote.Enum.Declared.tagOf C.the-type) apart) ∙ tag) in
       rw (h, e, f) (record { answers = refl; leaves = refl })
 
-  module _ (end : ℕ) (read : w ≡ child.Read end) where
+  module _ (end : ℕ) (read : w ≡ child.Walked end) where
     read-is : (ltb answer 9223372036854775808 ≡ true) × (end ≡ answer)
     read-is = read-only (ltb answer 9223372036854775808) answer end (sym apart ∙ read)
 
@@ -81,17 +83,20 @@ module _ (answer : ℕ) (w : Child) (apart : w ≡ cond (ltb answer 922337203685
       unfolding deliverAll
       all-more h = rw (read-is .0, at-place, lt-ltb _ _ h) (record { answers = refl; leaves = refl })
 
-      module _ (all : length flags ≤ at) (n : ℕ) (n-is : (n ≡ countOf end) × (n < 2048)) where
+      module _ (all : length flags ≤ at) (n : ℕ) (n-is : (n ≡ countOf end) × (n < 16384)) where
         n-count : countOf answer ≡ n
         n-count = sym (n-is .0 ∙ ap (λ c. countOf c) (read-is .1))
 
-        pub all-few : (answer < 9223372036854775808 → countOf answer ≤ 1024) → n ≤ 1024
+        all-few : (answer < 9223372036854775808 → countOf answer ≤ 1024) → n ≤ 1024
         all-few few = subst (λ (i : ℕ). i ≤ 1024) n-count (few (ltb-true _ _ (read-is .0)))
 
         pub all-short : length b < n * 8 → Meets (deliverAll answer scratch flags b) (Refused 14 n) b
         unfolding deliverAll
         all-short h = rw (read-is .0, at-place, n-count, le-ltb _ _ all, lt-ltb _ _ h) (record { answers = refl; leaves = refl })
 
-        pub all-done : n * 8 ≤ length b → (z : List ℕ) → z ≡ take (n * 8) scratch ++ drop (n * 8) b → Meets (deliverAll answer scratch flags b) (Accepted n) z
+        pub all-done : n * 8 ≤ length b → (answer < 9223372036854775808 → countOf answer ≤ 1024) → length scratch ≡ 8192 → (z : List ℕ) → z ≡ copied (n * 8) scratch b
+            → Meets (deliverAll answer scratch flags b) (Accepted n) z
         unfolding deliverAll
-        all-done h z e = rw (read-is .0, at-place, n-count, le-ltb _ _ all, le-ltb _ _ h) (record { answers = refl; leaves = e })
+        all-done h few len z e =
+            let m = all-few few in
+            rw (read-is .0, at-place, n-count, le-ltb _ _ all, le-ltb _ _ h) (record { answers = refl; leaves = e ∙ copied-all (n * 8) scratch b h (omega arith) })

@@ -1,12 +1,7 @@
 pub mod Rows
-pub mod Apart
-pub mod Chains
-pub mod Lists
-pub mod Measure
+pub mod Way
 pub mod Node
 pub mod Numbers
-pub mod Kids
-pub mod Copies
 pub mod Ends
 pub mod Delivery
 pub mod Whole

@@ -23,34 +23,36 @@ use Rattle.blocks.specs.Words.{rowWord, wordBytes, putWord}
 use Rattle.blocks.proofs.Words.{word-bytes}
 use Rattle.laws.proofs.Runs.{over-gone, over-one}
 use Rattle.laws.proofs.Steps.{isSplit, reading-refused, reading-leaf, reading-split}
-use Rattle.reader.specs.Walking.{going, stopping, placeOf, countOf, ending, reading, Done}
-use Rattle.reader.proofs.Chains.{going-place, going-count}
+use Rattle.nodes.specs.State.{going, stopping, placeOf, countOf}
+use Rattle.nodes.specs.Walks.{walkOver, ending, Done}
+use Rattle.nodes.proofs.Chains.{going-place, going-count}
+use Rattle.reader.specs.Walking.{readWay}
 
 module _ (l : Limits) (n : Node) (flags : List ℕ) (c : ℕ) (b : List ℕ) where
-  pub done-gone : cornerInside l n ≡ false → Done (reading l flags (n ∷ []) c) c b c b
+  pub done-gone : cornerInside l n ≡ false → Done (readWay flags) (walkOver (readWay flags) l (n ∷ []) c) c b c b
   unfolding overAll ending tableBytes
-  done-gone e = rw (over-gone (luma l) (readNode (luma l) flags) n [] (placeOf c) e) (record { said = omega arith; rows = refl })
+  done-gone e = rw (over-gone (luma l) (readNode (luma l) flags) n [] (placeOf c) e) (record { said = omega arith; given = refl })
 
   module _ (here : cornerInside l n ≡ true) (deep : n .qt + n .mtt < 256) where
-    pub done-refused : {k p : ℕ} → decide (rightsOf (luma l) n) flags (placeOf c) ≡ Refused k p → Done (reading l flags (n ∷ []) c) c b (stopping k p) b
+    pub done-refused : {k p : ℕ} → decide (rightsOf (luma l) n) flags (placeOf c) ≡ Refused k p → Done (readWay flags) (walkOver (readWay flags) l (n ∷ []) c) c b (stopping k p) b
     unfolding ending tableBytes
     done-refused e =
         rw (over-one (luma l) (readNode (luma l) flags) n (placeOf c) here, reading-refused (luma l) flags n deep (placeOf c) e)
-        (record { said = refl; rows = refl })
+        (record { said = refl; given = refl })
 
     pub done-leaf : {next : ℕ} → decide (rightsOf (luma l) n) flags (placeOf c) ≡ Chosen Leaf next
         → countOf c * 8 + 8 ≤ length b → (row : ℕ) → row ≡ rowWord (rowOf n) → (z : List ℕ) → z ≡ putWord b (countOf c * 8) row
-        → Done (reading l flags (n ∷ []) c) c b (going next (countOf c + 1)) z
+        → Done (readWay flags) (walkOver (readWay flags) l (n ∷ []) c) c b (going next (countOf c + 1)) z
     unfolding ending tableBytes putWord rowBytes
     done-leaf e room row i z h =
         rw (over-one (luma l) (readNode (luma l) flags) n (placeOf c) here, reading-leaf (luma l) flags n deep (placeOf c) e)
-        (record { said = refl; rows = h ∙ rw (le-leb _ _ room) (ap (λ w. sets b (countOf c * 8) (wordBytes w)) i ∙ ap (sets b (countOf c * 8)) (word-bytes (rowOf n))) })
+        (record { said = refl; given = h ∙ rw (le-leb _ _ room) (ap (λ w. sets b (countOf c * 8) (wordBytes w)) i ∙ ap (sets b (countOf c * 8)) (word-bytes (rowOf n))) })
 
     module _ {next : ℕ} {d : Decision} (e : decide (rightsOf (luma l) n) flags (placeOf c) ≡ Chosen d next) (split : isSplit d ≡ true) (ok : allows (rightsOf (luma l) n) d ≡ true) where
-      pub done-kids : {r : ℕ} {z : List ℕ} → Done (reading l flags (children l n d) (going next (countOf c))) (going next (countOf c)) b r z → Done (reading l flags (n ∷ []) c) c b r z
+      pub done-kids : {r : ℕ} {z : List ℕ} → Done (readWay flags) (walkOver (readWay flags) l (children l n d) (going next (countOf c))) (going next (countOf c)) b r z → Done (readWay flags) (walkOver (readWay flags) l (n ∷ []) c) c b r z
       done-kids {r} {z} kids =
           rw (over-one (luma l) (readNode (luma l) flags) n (placeOf c) here, reading-split (luma l) flags n deep (placeOf c) e ok split)
           (record {
             said = rw (going-place next (countOf c) (omega arith), going-count next (countOf c) (omega arith)) at (kids .said);
-            rows = rw (going-place next (countOf c) (omega arith), going-count next (countOf c) (omega arith)) at (kids .rows);
+            given = rw (going-place next (countOf c) (omega arith), going-count next (countOf c) (omega arith)) at (kids .given);
           })

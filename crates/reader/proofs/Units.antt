@@ -1,72 +1,30 @@
 -- The reading of a unit: its refusals 1 to 10, or the reading of its tree.
 use Prim.Native.Nat.{ℕ}
-use mathlib.Core.Path.{_≡_, refl, sym, ap, subst, _∙_}
-use mathlib.Core.Bool.{Bool, true, false, cond}
+use mathlib.Core.Path.{_≡_, refl, subst}
 use mathlib.Core.List.{List}
-use native.Mathlib.Omega.{arith}
-use lib.Dec.{eqb}
-use borrow.Author.Tests.{eqb-true}
 use Rattle.settings.specs.declared.Settings.{Settings}
 use Rattle.settings.specs.declared.Square.{Square}
 use Rattle.settings.specs.declared.Located.{Located}
 use Rattle.settings.specs.declared.Located.the-variants.{At, Refused}
-use Rattle.settings.specs.Units.{unitRefusal, squareAt, located}
+use Rattle.settings.specs.Units.{located}
 use Rattle.tree.specs.declared.Limits.{Limits}
 use Rattle.tree.specs.declared.Node.{Node}
-use Rattle.tree.specs.declared.Direction.the-variants.{Horizontal, Vertical}
 use Rattle.tree.specs.Kind.{luma}
-use Rattle.laws.proofs.Picture.{starts-in}
-use Rattle.laws.proofs.Tests.{never}
 use Rattle.unit.specs.declared.Answer.{Answer}
 use Rattle.unit.specs.declared.Answer.the-variants as answer
 use Rattle.unit.specs.Answers.{Meets}
-use Rattle.unit.specs.Luma.{limitsOf, kindOf, rootOf, rootAt}
+use Rattle.unit.specs.Luma.{limitsOf, rootOf, rootAt}
 use Rattle.unit.specs.Reader.{readTree, readUnit}
-use Rattle.unit.proofs.Roots.{Root, root-of}
-use Rattle.reader.specs.Walking.{Rooted}
+use Rattle.unit.proofs.Located.{found, missed, same-root}
 
--- ---- what `unit_at` answered
+module _ (s : Settings) (a : ℕ) {r : Located} (e : r ≡ located s a) (flags b : List ℕ) where
+  pub unit-refused : {k : ℕ} → r ≡ Refused k → Meets (readUnit s a flags b) (answer.Refused k 0) b
+  unfolding readUnit
+  unit-refused h = let m = missed s a e h in rw (m .0, m .1) (record { answers = refl; leaves = refl })
 
-module _ (s : Settings) (a : ℕ) {r : Located} (e : r ≡ located s a) where
-  found : {q : Square} → r ≡ At q → (unitRefusal s a ≡ 0) × (q ≡ squareAt s a)
-  unfolding located
-  found {q} h = go (eqb (unitRefusal s a) 0) refl (sym e ∙ h)
-    where
-      go : (b : Bool) → eqb (unitRefusal s a) 0 ≡ b → cond b (At (squareAt s a)) (Refused (unitRefusal s a)) ≡ At q → (unitRefusal s a ≡ 0) × (q ≡ squareAt s a)
-      go true t h = (eqb-true _ _ t, cc)
-      go false t h = never (cc)
-
-  missed : {k : ℕ} → r ≡ Refused k → (eqb (unitRefusal s a) 0 ≡ false) × (k ≡ unitRefusal s a)
-  unfolding located
-  missed {k} h = go (eqb (unitRefusal s a) 0) refl (sym e ∙ h)
-    where
-      go : (b : Bool) → eqb (unitRefusal s a) 0 ≡ b → cond b (At (squareAt s a)) (Refused (unitRefusal s a)) ≡ Refused k → (eqb (unitRefusal s a) 0 ≡ false) × (k ≡ unitRefusal s a)
-      go true t h = never (cc)
-      go false t h = (t, cc)
-
-root-rooted : (s : Settings) (a : ℕ) → Root s a → Rooted (limitsOf s) (rootAt s a)
-root-rooted s a r = record {
-  valid = r .valid;
-  good = r .good;
-  here = r .here;
-  top = (refl, refl, refl);
-  right = let x = starts-in (kindOf s) (rootAt s a) (r .here) Vertical in let w = r .good .shape .side Vertical .most in let m = r .passed .width .most in omega arith;
-  bottom = let y = starts-in (kindOf s) (rootAt s a) (r .here) Horizontal in let h = r .good .shape .side Horizontal .most in let m = r .passed .height .most in omega arith;
-}
-
-module _ (s : Settings) (a : ℕ) {r : Located} (e : r ≡ located s a) where
-  module _ (flags b : List ℕ) where
-    pub unit-refused : {k : ℕ} → r ≡ Refused k → Meets (readUnit s a flags b) (answer.Refused k 0) b
-    unfolding readUnit
-    unit-refused h = let m = missed s a e h in rw (m .0, m .1) (record { answers = refl; leaves = refl })
-
-  module _ {q : Square} (h : r ≡ At q) {l : Limits} {root : Node} (i : l ≡ limitsOf s) (j : root ≡ rootOf q) where
-    same-root : root ≡ rootAt s a
-    same-root = j ∙ ap (λ x. rootOf x) (found s a e h .1)
-
-    pub unit-rooted : Rooted l root
-    unit-rooted = rw (i, same-root) (root-rooted s a (root-of s a (found s a e h .0)))
-
-    pub unit-read : (flags b : List ℕ) {said : Answer} {left : List ℕ} → Meets (readTree (luma l) root flags b) said left → Meets (readUnit s a flags b) said left
-    unfolding readUnit
-    unit-read flags b {said} {left} m = rw (found s a e h .0) (subst (λ x. Meets (readTree (luma x) (rootAt s a) flags b) said left) i (subst (λ x. Meets (readTree (luma l) x flags b) said left) same-root m))
+  pub unit-read : {q : Square} → r ≡ At q → {l : Limits} {root : Node} → l ≡ limitsOf s → root ≡ rootOf q → {said : Answer} {left : List ℕ}
+      → Meets (readTree (luma l) root flags b) said left → Meets (readUnit s a flags b) said left
+  unfolding readUnit
+  unit-read h {l} {root} i j {said} {left} m =
+      rw (found s a e h .0)
+      (subst (λ x. Meets (readTree (luma x) (rootAt s a) flags b) said left) i (subst (λ x. Meets (readTree (luma l) x flags b) said left) (same-root s a e h i j) m))

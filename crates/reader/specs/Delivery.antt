@@ -11,7 +11,7 @@ use Rattle.tree.specs.Run.{goes}
 use Rattle.unit.specs.declared.Answer.the-variants.{Accepted}
 use Rattle.unit.specs.Answers.{Outcome, refused, finish}
 use Rattle.unit.specs.Reader.{noneAfter}
-use Rattle.reader.specs.Walking.{placeOf, countOf, numberOf, refusedAt}
+use Rattle.nodes.specs.State.{placeOf, countOf, numberOf, refusedAt}
 
 -- the first flag, or the lack of an open split, makes the root a leaf: it lies inside the picture, and its split flag is absent or 0
 abbrev pub leafFirst : Bool → ℕ → List ℕ → Bool

@@ -1,32 +1,13 @@
 // The end of a reading: refusals 13 and 14, or its rows in the lent buffer. Nothing is written before both are passed.
-use crate::state::Child;
-use crate::state::Scratch;
-use crate::state::count;
-use crate::state::place;
-use crate::state::refusal_number;
-use crate::state::refusal_place;
-use crate::state::taken_apart;
+use crate::scratch::Scratch;
+use nodes::Child;
 use tree::Node;
 use unit::Answer;
 ghost use mathlib.Core.Path.{_≡_};
-ghost use mathlib.Core.List.{_++_};
-ghost use Prim.Native.Nat.{_*_, _≤_, _<_};
-ghost use lib.ListN.{length, take, drop};
+ghost use Prim.Native.Nat.{_≤_, _<_};
 ghost use Rattle.unit.specs.Answers.{Meets};
-ghost use Rattle.reader.specs.Walking.{countOf};
+ghost use Rattle.nodes.specs.State.{countOf};
 ghost use Rattle.reader.specs.Delivery.{leafFirst, leafFlags, deliverOne, deliverAll};
-
-// The first n bytes of a table, over the first n of a buffer.
-fn copy(rows: &mut [u8], from: &[u8], n: usize)
-    requires { ⌜ (n ≤ length (now rows)) × (n ≤ length (now from)) ⌝ }
-    ensures { λ _. ⌜ now (rows .exit) ≡ take n (now (from .entry)) ++ drop n (now (rows .entry)) ⌝ }
-{
-    let mut i = 0;
-    while i < n {
-        rows[i] = from[i];
-        i += 1;
-    }
-}
 
 // Whether the first flag, or the lack of an open split, makes a root a leaf.
 pub(crate) fn is_leaf(out: bool, splits: u32, flags: &[u8]) -> bool
@@ -71,17 +52,17 @@ pub(crate) fn all_rows(answer: u64, scratch: &Scratch, flags: &[u8], rows: &mut 
     requires { ⌜ (answer < 9223372036854775808 → countOf answer ≤ 1024) ⌝ }
     ensures { λ r. ⌜ Meets (deliverAll answer (now (scratch .entry)) (now (flags .entry)) (now (rows .entry))) r (now (rows .exit)) ⌝ }
 {
-    let Child::Read(end) = taken_apart(answer) else {
-        return Answer::Refused(refusal_number(answer), refusal_place(answer));
+    let Child::Walked(end) = nodes::taken_apart(answer) else {
+        return Answer::Refused(nodes::refusal_number(answer), nodes::refusal_place(answer));
     };
-    let at = place(end);
+    let at = nodes::place(end);
     if at < flags.len() {
         return Answer::Refused(13, at);
     }
-    let n = count(end);
+    let n = nodes::count(end);
     if rows.len() < n * 8 {
         return Answer::Refused(14, n);
     }
-    copy(rows, scratch, n * 8);
+    blocks::copy_front(rows, scratch, n * 8);
     Answer::Accepted(n)
 }

@@ -1,6 +1,6 @@
 // The reader of a single unit: flags become rows, or document 01's refusals 1 to 14.
 mod deliver;
-mod state;
+mod scratch;
 mod walk;
 
 use settings::Located;
@@ -12,7 +12,7 @@ use unit::Answer;
 ghost use Rattle.tree.specs.Kind.{luma};
 ghost use Rattle.unit.specs.Answers.{Meets};
 ghost use Rattle.unit.specs.Reader.{readTree, readUnit};
-ghost use Rattle.reader.specs.Walking.{Rooted};
+ghost use Rattle.nodes.specs.Rooted.{Rooted};
 
 // The reading of a whole tree by a walk into a scratch table of 1,024 rows.
 fn read_all(l: Limits, root: Node, flags: &[u8], rows: &mut [u8]) -> Answer

@@ -1,20 +1,25 @@
 // The walk of a node and the walk of its children call each other: flags become rows in a scratch table.
 // A node is its two numbers (crate nodes); the children of each kind of split are written out.
-use crate::state::Child;
-use crate::state::Scratch;
-use crate::state::count;
-use crate::state::earlier;
-use crate::state::going;
-use crate::state::place;
-use crate::state::stopping;
-use crate::state::taken_apart;
+use crate::scratch::Scratch;
+use nodes::Child;
 use nodes::Table;
+use nodes::taken_apart;
 use tree::Choice;
 use tree::Decision;
 use tree::Direction;
+ghost use mathlib.Core.Path.{_≡_};
 ghost use mathlib.Core.List.{[], _∷_};
+ghost use Prim.Native.Nat.{min};
 ghost use Rattle.nodes.specs.Stands.{word, fourWords, twoWords, threeWords, kidWords};
-ghost use Rattle.reader.specs.Walking.{Asked, Walked};
+ghost use Rattle.nodes.specs.Walks.{Asked, Walked};
+ghost use Rattle.reader.specs.Walking.{readWay};
+
+// The smaller of two places.
+fn earlier(a: usize, b: usize) -> usize
+    ensures { λ r. ⌜ r ≡ min a b ⌝ }
+{
+    if a < b { a } else { b }
+}
 
 // Reads a node. A node whose corner is outside the picture is skipped.
 pub(crate) fn node_walk(
@@ -25,26 +30,31 @@ pub(crate) fn node_walk(
     row: u64,
     kept: u32,
 ) -> u64
-    requires { ⌜ Asked (now u) c (word row kept ∷ []) ⌝ }
-    ensures { λ r. ⌜ Walked (now (u .entry)) (now (flags .entry)) c (word row kept ∷ []) (now (rows .entry)) r (now (rows .exit)) ⌝ }
+    requires { ⌜ Asked (readWay (now flags)) (now u) c (word row kept ∷ []) ⌝ }
+    ensures { λ r. ⌜ Walked (readWay (now (flags .entry))) (now (u .entry)) c (word row kept ∷ []) (now (rows .entry)) r (now (rows .exit)) ⌝ }
 {
     if nodes::skipped(u, row, kept) {
         return c;
     }
     let out = nodes::out(u, row, kept);
     let end = flags.len();
-    match flags::decide(flags, place(c), out, nodes::open_splits(u, row, kept)) {
-        Choice::Refused(number, at) => stopping(number, earlier(at, end)),
+    match flags::decide(
+        flags,
+        nodes::place(c),
+        out,
+        nodes::open_splits(u, row, kept),
+    ) {
+        Choice::Refused(number, at) => nodes::stopping(number, earlier(at, end)),
         Choice::Chosen(decision, next) => match decision {
             Decision::Leaf => {
-                blocks::put_row(rows, count(c) * 8, row);
-                going(next, count(c) + 1)
+                blocks::put_row(rows, nodes::count(c) * 8, row);
+                nodes::going(next, nodes::count(c) + 1)
             }
             _ => children_walk(
                 u,
                 flags,
                 rows,
-                going(next, count(c)),
+                nodes::going(next, nodes::count(c)),
                 row,
                 kept,
                 out,
@@ -65,8 +75,8 @@ pub(crate) fn children_walk(
     out: bool,
     d: Decision,
 ) -> u64
-    requires { ⌜ Asked (now u) c (kidWords (now u) row kept out d) ⌝ }
-    ensures { λ r. ⌜ Walked (now (u .entry)) (now (flags .entry)) c (kidWords (now (u .entry)) row kept out d) (now (rows .entry)) r (now (rows .exit)) ⌝ }
+    requires { ⌜ Asked (readWay (now flags)) (now u) c (kidWords (now u) row kept out d) ⌝ }
+    ensures { λ r. ⌜ Walked (readWay (now (flags .entry))) (now (u .entry)) c (kidWords (now (u .entry)) row kept out d) (now (rows .entry)) r (now (rows .exit)) ⌝ }
 {
     match d {
         Decision::Leaf => c,
@@ -95,22 +105,22 @@ pub(crate) fn four_walk(
     row: u64,
     kept: u32,
 ) -> u64
-    requires { ⌜ Asked (now u) c (fourWords row kept) ⌝ }
-    ensures { λ r. ⌜ Walked (now (u .entry)) (now (flags .entry)) c (fourWords row kept) (now (rows .entry)) r (now (rows .exit)) ⌝ }
+    requires { ⌜ Asked (readWay (now flags)) (now u) c (fourWords row kept) ⌝ }
+    ensures { λ r. ⌜ Walked (readWay (now (flags .entry))) (now (u .entry)) c (fourWords row kept) (now (rows .entry)) r (now (rows .exit)) ⌝ }
 {
     let row0 = nodes::child_row(row, Decision::Quad, 0);
     let first = node_walk(u, flags, rows, c, row0, kept);
-    let Child::Read(c1) = taken_apart(first) else {
+    let Child::Walked(c1) = taken_apart(first) else {
         return first;
     };
     let row1 = nodes::child_row(row, Decision::Quad, 1);
     let second = node_walk(u, flags, rows, c1, row1, kept);
-    let Child::Read(c2) = taken_apart(second) else {
+    let Child::Walked(c2) = taken_apart(second) else {
         return second;
     };
     let row2 = nodes::child_row(row, Decision::Quad, 2);
     let third = node_walk(u, flags, rows, c2, row2, kept);
-    let Child::Read(c3) = taken_apart(third) else {
+    let Child::Walked(c3) = taken_apart(third) else {
         return third;
     };
     let row3 = nodes::child_row(row, Decision::Quad, 3);
@@ -127,12 +137,12 @@ pub(crate) fn two_walk(
     d: Direction,
     kept: u32,
 ) -> u64
-    requires { ⌜ Asked (now u) c (twoWords row d kept) ⌝ }
-    ensures { λ r. ⌜ Walked (now (u .entry)) (now (flags .entry)) c (twoWords row d kept) (now (rows .entry)) r (now (rows .exit)) ⌝ }
+    requires { ⌜ Asked (readWay (now flags)) (now u) c (twoWords row d kept) ⌝ }
+    ensures { λ r. ⌜ Walked (readWay (now (flags .entry))) (now (u .entry)) c (twoWords row d kept) (now (rows .entry)) r (now (rows .exit)) ⌝ }
 {
     let row0 = nodes::child_row(row, Decision::Binary(d), 0);
     let first = node_walk(u, flags, rows, c, row0, kept);
-    let Child::Read(c1) = taken_apart(first) else {
+    let Child::Walked(c1) = taken_apart(first) else {
         return first;
     };
     let row1 = nodes::child_row(row, Decision::Binary(d), 1);
@@ -150,17 +160,17 @@ pub(crate) fn three_walk(
     kept: u32,
     middle: u32,
 ) -> u64
-    requires { ⌜ Asked (now u) c (threeWords row d kept middle) ⌝ }
-    ensures { λ r. ⌜ Walked (now (u .entry)) (now (flags .entry)) c (threeWords row d kept middle) (now (rows .entry)) r (now (rows .exit)) ⌝ }
+    requires { ⌜ Asked (readWay (now flags)) (now u) c (threeWords row d kept middle) ⌝ }
+    ensures { λ r. ⌜ Walked (readWay (now (flags .entry))) (now (u .entry)) c (threeWords row d kept middle) (now (rows .entry)) r (now (rows .exit)) ⌝ }
 {
     let row0 = nodes::child_row(row, Decision::Ternary(d), 0);
     let first = node_walk(u, flags, rows, c, row0, kept);
-    let Child::Read(c1) = taken_apart(first) else {
+    let Child::Walked(c1) = taken_apart(first) else {
         return first;
     };
     let row1 = nodes::child_row(row, Decision::Ternary(d), 1);
     let second = node_walk(u, flags, rows, c1, row1, middle);
-    let Child::Read(c2) = taken_apart(second) else {
+    let Child::Walked(c2) = taken_apart(second) else {
         return second;
     };
     let row2 = nodes::child_row(row, Decision::Ternary(d), 2);

@@ -45,7 +45,7 @@ fn right_out(l: Limits, n: Node) -> bool
     (l.width as u64) < (n.x as u64) + (n.w as u64)
 }
 
-fn bottom_out(l: Limits, n: Node) -> bool
+pub fn bottom_out(l: Limits, n: Node) -> bool
     ensures { λ r. ⌜ r ≡ bottomOut l n ⌝ }
 {
     (l.height as u64) < (n.y as u64) + (n.h as u64)

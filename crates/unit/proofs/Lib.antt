@@ -1,5 +1,6 @@
 pub mod Checked
 pub mod Roots
+pub mod Located
 pub mod Accepts
 pub mod Parsed
 pub mod TreeReading

@@ -20,7 +20,7 @@ node-walk-requires c κs =
     let ke = c .before .before in
     let ro = ke .before .before in
     let ta = ro .before in
-    root-asked (ta .before .before .before .pre) (ta .tables .ensures) (ro .row-word .ensures) (ke .kept-under .ensures)
+    root-asked (ta .before .before .before .pre) (now (ta .before .before .before .args .flags)) (ta .tables .ensures) (ro .row-word .ensures) (ke .kept-under .ensures)
 
 all-rows-requires : tie.Need-all-rows-requires
 all-rows-requires c κs =

@@ -1,6 +1,7 @@
 use denote.Ref.{now}
 use borrow.Author.Needs.{needs}
-use Rattle.reader.proofs.Units.{unit-rooted, unit-refused, unit-read}
+use Rattle.unit.proofs.Located.{unit-rooted}
+use Rattle.reader.proofs.Units.{unit-refused, unit-read}
 use Rattle.reader.proofs.read_unit.Statement.{statement}
 use Rattle.reader.proofs.read_unit.Tie as tie
 
@@ -46,7 +47,7 @@ returns-2 c =
     let q = li .before .before in
     let ua = q .before .before in
     let a = ua .before .before .before .args in
-    unit-read (a .s) (a .address) (ua .unit-at .ensures) (q .q .given .1) (li .limits .ensures) (ro .root .ensures) (now (a .flags)) (now (a .rows)) (rt .read-tree .ensures)
+    unit-read (a .s) (a .address) (ua .unit-at .ensures) (now (a .flags)) (now (a .rows)) (q .q .given .1) (li .limits .ensures) (ro .root .ensures) (rt .read-tree .ensures)
 
 pub read-unit-spec : {M : Type 1} → statement M
 read-unit-spec =

@@ -60,7 +60,7 @@ returns c =
     let sh = f1 .before in
     let pa = sh .before in
     let he = pa .before in
-    rw (de .deeper .ensures .0, pa .part-at .ensures, f1 .fall .ensures .0, f2 .fall2 .ensures .0, sh .share-at .ensures, he .before .width .ensures, he .height .ensures)
+    rw (de .deeper .ensures .0, pa .part-at .ensures, f1 .fall .ensures .0, f2 .fall2 .ensures .0, sh .share-at .ensures, he .before .width .ensures .0, he .height .ensures .0)
 
 pub step-to-spec : {M : Type 1} → statement M
 step-to-spec =

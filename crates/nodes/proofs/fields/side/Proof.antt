@@ -8,7 +8,7 @@ shl-result : tie.Need-shl-result
 shl-result c = search needs
 
 returns : tie.Need-returns
-returns c = omega (arith, side-small (c .pre))
+returns c = (omega (arith, side-small (c .pre)), omega (arith, side-small (c .pre)))
 
 pub side-spec : {M : Type 1} → statement M
 side-spec = tie.close (tie.spec shl-result returns)

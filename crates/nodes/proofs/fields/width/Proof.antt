@@ -9,7 +9,7 @@ side-requires : tie.Need-side-requires
 side-requires c κs = search needs
 
 returns : tie.Need-returns
-returns c = rw (c .side .ensures, c .before .width-exponent .ensures .0)
+returns c = (rw (c .side .ensures .0, c .before .width-exponent .ensures .0), c .side .ensures .1)
 
 pub width-spec : {M : Type 1} → statement M
 width-spec = tie.close (tie.spec width-exponent-requires side-requires returns)

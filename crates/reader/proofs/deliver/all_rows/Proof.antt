@@ -1,7 +1,6 @@
-use native.Mathlib.Omega.{arith}
 use denote.Ref.{now}
 use borrow.Author.Needs.{needs}
-use Rattle.reader.proofs.Ends.{all-stop, all-more, all-few, all-short, all-done}
+use Rattle.reader.proofs.Ends.{all-stop, all-more, all-short, all-done}
 use Rattle.reader.proofs.deliver.all_rows.Statement.{statement}
 use Rattle.reader.proofs.deliver.all_rows.Tie as tie
 
@@ -54,21 +53,11 @@ returns-3 c =
     let a = taken .before .before .before .args in
     all-short (a .answer) _ (taken .taken-apart .ensures) (now (a .scratch)) (now (a .flags)) (now (a .rows)) _ (end .end .given .1) _ (place .place .ensures) (test .if1 .left) _ (count .count .ensures) (c .if2 .taken)
 
-mul-copy : tie.Need-mul-copy
-mul-copy c = search needs
+mul-copy-front : tie.Need-mul-copy-front
+mul-copy-front c = search needs
 
-copy-requires : tie.Need-copy-requires
-copy-requires c κs =
-    let room = c .before .before in
-    let count = room .before in
-    let test = count .before in
-    let place = test .before in
-    let end = place .before .before in
-    let taken = end .before .before in
-    let start = taken .before .before .before in
-    let a = start .args in
-    let few = all-few (a .answer) _ (taken .taken-apart .ensures) (now (a .scratch)) (now (a .flags)) (now (a .rows)) _ (end .end .given .1) _ (place .place .ensures) (test .if1 .left) _ (count .count .ensures) (start .pre) in
-    (room .if2 .left, omega arith)
+copy-front-requires : tie.Need-copy-front-requires
+copy-front-requires c κs = search needs
 
 same-length : tie.Need-same-length
 same-length c = search needs
@@ -76,14 +65,16 @@ same-length c = search needs
 returns-4 : tie.Need-returns-4
 returns-4 c =
     let copied = c .before .before in
-    let room = copied .before .before .before in
+    let scratch = copied .before in
+    let room = scratch .before .before in
     let count = room .before in
     let test = count .before in
     let place = test .before in
     let end = place .before .before in
     let taken = end .before .before in
-    let a = taken .before .before .before .args in
-    all-done (a .answer) _ (taken .taken-apart .ensures) (now (a .scratch)) (now (a .flags)) (now (a .rows)) _ (end .end .given .1) _ (place .place .ensures) (test .if1 .left) _ (count .count .ensures) (room .if2 .left) _ (copied .copy .ensures)
+    let start = taken .before .before .before in
+    let a = start .args in
+    all-done (a .answer) _ (taken .taken-apart .ensures) (now (a .scratch)) (now (a .flags)) (now (a .rows)) _ (end .end .given .1) _ (place .place .ensures) (test .if1 .left) _ (count .count .ensures) (room .if2 .left) (start .pre) (scratch .copy-front-arg2 .given .0) _ (copied .copy-front .ensures)
 
 pub all-rows-spec : {M : Type 1} → statement M
 all-rows-spec =
@@ -100,7 +91,7 @@ all-rows-spec =
     count-requires
     mul-if2
     returns-3
-    mul-copy
-    copy-requires
+    mul-copy-front
+    copy-front-requires
     same-length
     returns-4)

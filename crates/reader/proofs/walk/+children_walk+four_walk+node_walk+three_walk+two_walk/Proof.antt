@@ -1,4 +1,4 @@
-use Prim.Native.Nat.{ℕ, _+_, _*_, _<_}
+use Prim.Native.Nat.{ℕ, _+_, _*_, _%_, _<_}
 use mathlib.Core.Path.{sym, ap, subst, _∙_}
 use native.Mathlib.Omega.{arith}
 use mathlib.Core.Bool.{false}
@@ -9,12 +9,16 @@ use Rattle.nodes.specs.Words.{reachesOut, childRow}
 use Rattle.tree.specs.declared.Choice.the-variants.{Chosen}
 use Rattle.tree.specs.declared.Decision.the-variants.{Quad, Binary, Ternary}
 use Rattle.nodes.specs.Stands.{word, fourWords, twoWords, threeWords, kidWords}
-use Rattle.reader.specs.Walking.{going, Asked, Walked}
-use Rattle.reader.proofs.Apart.{was-read, was-refused}
-use Rattle.reader.proofs.Kids.{split-tag, none-walked, four-words, two-words, three-words, four-areas, two-areas, three-areas, kids-areas-same, kids-fall, node-falls}
+use Rattle.nodes.specs.State.{countOf, going}
+use Rattle.nodes.specs.Walks.{Asked, Walked}
+use Rattle.reader.specs.Walking.{readWay}
+use Rattle.reader.proofs.Way.{read-lawful, none-read}
+use Rattle.nodes.proofs.Apart.{was-walked, was-refused}
+use Rattle.nodes.proofs.Chains.{going-is, stopping-is}
+use Rattle.nodes.proofs.KidWords.{split-tag, no-words, four-words, two-words, three-words, four-areas, two-areas, three-areas, kids-areas-same, kids-fall, node-falls}
 use Rattle.reader.proofs.Numbers.{decision-is, walked-gone, refused-small, walked-refused, chosen-small, asked-kids, kids-areas-in, walked-kids, walked-leaf}
-use Rattle.reader.proofs.Lists.{found-first, as-found, found-stop, found-asks, found-rest}
-use Rattle.reader.proofs.Measure.{areaIn, areasIn, at-first, at-first-of, at-later, before-more, part-falls}
+use Rattle.nodes.proofs.Lists.{found-first, as-found, found-stop, found-asks, found-rest}
+use Rattle.nodes.proofs.Measure.{areaIn, areasIn, at-first, at-first-of, at-later, before-more, part-falls}
 use borrow.Author.Needs.{needs}
 use borrow.Fn.Kinds.{In}
 use borrow.Fn.PlainCycle.{Measures, is, falls, and}
@@ -40,12 +44,12 @@ use Rattle.nodes.proofs.kept_under.Reads as kept-under-reads
 use Rattle.nodes.proofs.open_splits.Reads as open-splits-reads
 use Rattle.nodes.proofs.out.Reads as out-reads
 use Rattle.nodes.proofs.skipped.Reads as skipped-reads
-use Rattle.reader.proofs.state.count.Reads as count-reads
-use Rattle.reader.proofs.state.earlier.Reads as earlier-reads
-use Rattle.reader.proofs.state.going.Reads as going-reads
-use Rattle.reader.proofs.state.place.Reads as place-reads
-use Rattle.reader.proofs.state.stopping.Reads as stopping-reads
-use Rattle.reader.proofs.state.taken_apart.Reads as taken-apart-reads
+use Rattle.nodes.proofs.count.Reads as count-reads
+use Rattle.reader.proofs.walk.earlier.Reads as earlier-reads
+use Rattle.nodes.proofs.going.Reads as going-reads
+use Rattle.nodes.proofs.place.Reads as place-reads
+use Rattle.nodes.proofs.stopping.Reads as stopping-reads
+use Rattle.nodes.proofs.taken_apart.Reads as taken-apart-reads
 use Rattle.reader.proofs.walk.+children_walk+four_walk+node_walk+three_walk+two_walk.{statement}
 use Rattle.reader.proofs.walk.+children_walk+four_walk+node_walk+three_walk+two_walk.Tie.{close}
 
@@ -136,9 +140,10 @@ children-walk-four-walk-requires t c κs =
     let told = k .before in
     let st = told .before .before .before in
     let a = st .args in
+    let way = readWay (now (a .flags)) in
     let e = told .enum-told2 .given .1 in (
       kids-fall (four-areas (now (a .u)) (a .row) e) (st .pre .0),
-      subst (λ ws. Asked (now (a .u)) (a .c) ws) (sym (four-words (now (a .u)) (a .row) (a .kept) (a .out) e (k .kept-under .ensures))) (st .pre .1),
+      subst (λ ws. Asked way (now (a .u)) (a .c) ws) (sym (four-words (now (a .u)) (a .row) (a .kept) (a .out) e (k .kept-under .ensures))) (st .pre .1),
     )
 
 children-walk-enum-known-d : (t : ℕ) → children-walk-lts.Need-enum-known-d (children-claims t) (children-walk-at t) children-walk.Post
@@ -153,9 +158,10 @@ children-walk-two-walk-requires t c κs =
     let d = k .before .before in
     let st = d .before .before .before in
     let a = st .args in
+    let way = readWay (now (a .flags)) in
     let e = d .d .given .1 in (
       kids-fall (two-areas (now (a .u)) (a .row) _ e) (st .pre .0),
-      subst (λ ws. Asked (now (a .u)) (a .c) ws) (sym (two-words (now (a .u)) (a .row) (a .kept) (a .out) _ e (k .kept-under2 .ensures))) (st .pre .1),
+      subst (λ ws. Asked way (now (a .u)) (a .c) ws) (sym (two-words (now (a .u)) (a .row) (a .kept) (a .out) _ e (k .kept-under2 .ensures))) (st .pre .1),
     )
 
 children-walk-enum-known-d-2 : (t : ℕ) → children-walk-lts.Need-enum-known-d-2 (children-claims t) (children-walk-at t) children-walk.Post
@@ -174,23 +180,27 @@ children-walk-three-walk-requires t c κs =
     let d = k .before .before in
     let st = d .before .before .before in
     let a = st .args in
+    let way = readWay (now (a .flags)) in
     let e = d .d2 .given .1 in (
       kids-fall (three-areas (now (a .u)) (a .row) _ e) (st .pre .0),
-      subst (λ ws. Asked (now (a .u)) (a .c) ws) (sym (three-words (now (a .u)) (a .row) (a .kept) (a .out) _ e (k .kept-under3 .ensures) (m .kept-under4 .ensures))) (st .pre .1),
+      subst (λ ws. Asked way (now (a .u)) (a .c) ws) (sym (three-words (now (a .u)) (a .row) (a .kept) (a .out) _ e (k .kept-under3 .ensures) (m .kept-under4 .ensures))) (st .pre .1),
     )
 
 children-walk-returns : (t : ℕ) → children-walk-lts.Need-returns (children-claims t) (children-walk-at t) children-walk.Post
 children-walk-returns t c =
     let a = c .before .before .before .args in
-    none-walked (now (a .u)) (now (a .flags)) (a .c) (a .row) (a .kept) (a .out) (c .enum-told .given .1) (now (a .rows))
+    let way = readWay (now (a .flags)) in
+    subst (λ ws. Walked way (now (a .u)) (a .c) ws (now (a .rows)) (a .c) (now (a .rows))) (no-words (now (a .u)) (a .row) (a .kept) (a .out) (c .enum-told .given .1))
+    (none-read (now (a .flags)) (now (a .u)) (a .c) (now (a .rows)))
 
 children-walk-returns-2 : (t : ℕ) → children-walk-lts.Need-returns-2 (children-claims t) (children-walk-at t) children-walk.Post
 children-walk-returns-2 t c =
     let k = c .before .before in
     let told = k .before in
     let a = told .before .before .before .args in
+    let way = readWay (now (a .flags)) in
     let e = told .enum-told2 .given .1 in
-    subst (λ ws. Walked (now (a .u)) (now (a .flags)) (a .c) ws (now (a .rows)) (c .four-walk .result) (c .four-walk .last .1 .1 .0))
+    subst (λ ws. Walked way (now (a .u)) (a .c) ws (now (a .rows)) (c .four-walk .result) (c .four-walk .last .1 .1 .0))
     (four-words (now (a .u)) (a .row) (a .kept) (a .out) e (k .kept-under .ensures)) (c .four-walk .ensures)
 
 children-walk-returns-3 : (t : ℕ) → children-walk-lts.Need-returns-3 (children-claims t) (children-walk-at t) children-walk.Post
@@ -198,8 +208,9 @@ children-walk-returns-3 t c =
     let k = c .before .before in
     let d = k .before .before in
     let a = d .before .before .before .args in
+    let way = readWay (now (a .flags)) in
     let e = d .d .given .1 in
-    subst (λ ws. Walked (now (a .u)) (now (a .flags)) (a .c) ws (now (a .rows)) (c .two-walk .result) (c .two-walk .last .1 .1 .0))
+    subst (λ ws. Walked way (now (a .u)) (a .c) ws (now (a .rows)) (c .two-walk .result) (c .two-walk .last .1 .1 .0))
     (two-words (now (a .u)) (a .row) (a .kept) (a .out) _ e (k .kept-under2 .ensures)) (c .two-walk .ensures)
 
 children-walk-returns-4 : (t : ℕ) → children-walk-lts.Need-returns-4 (children-claims t) (children-walk-at t) children-walk.Post
@@ -208,8 +219,9 @@ children-walk-returns-4 t c =
     let k = m .before in
     let d = k .before .before in
     let a = d .before .before .before .args in
+    let way = readWay (now (a .flags)) in
     let e = d .d2 .given .1 in
-    subst (λ ws. Walked (now (a .u)) (now (a .flags)) (a .c) ws (now (a .rows)) (c .three-walk .result) (c .three-walk .last .1 .1 .0))
+    subst (λ ws. Walked way (now (a .u)) (a .c) ws (now (a .rows)) (c .three-walk .result) (c .three-walk .last .1 .1 .0))
     (three-words (now (a .u)) (a .row) (a .kept) (a .out) _ e (k .kept-under3 .ensures) (m .kept-under4 .ensures)) (c .three-walk .ensures)
 
 four-walk-child-row-requires : (t : ℕ) → four-walk-lts.Need-child-row-requires (four-claims t) (four-walk-at t) four-walk.Post
@@ -220,7 +232,9 @@ four-walk-node-walk-requires t c κs =
     let k1 = c .before in
     let st = k1 .before .before in
     let a = st .args in
-    (part-falls (fourWords (a .row) 0) (childRow (a .row) Quad 0) (k1 .child-row .ensures) (at-first-of (word (childRow (a .row) Quad 0) 0) (word (childRow (a .row) Quad 1) 0) ((word (childRow (a .row) Quad 2) 0) ∷ ((word (childRow (a .row) Quad 3) 0) ∷ []))) (st .pre .0), found-first (k1 .child-row .ensures) (st .pre .1))
+    let way = readWay (now (a .flags)) in
+    let law = read-lawful (now (a .flags)) in
+    (part-falls (fourWords (a .row) 0) (childRow (a .row) Quad 0) (k1 .child-row .ensures) (at-first-of (word (childRow (a .row) Quad 0) 0) (word (childRow (a .row) Quad 1) 0) ((word (childRow (a .row) Quad 2) 0) ∷ ((word (childRow (a .row) Quad 3) 0) ∷ []))) (st .pre .0), found-first way law (k1 .child-row .ensures) (st .pre .1))
 
 four-walk-taken-apart-requires : (t : ℕ) → four-walk-lts.Need-taken-apart-requires (four-claims t) (four-walk-at t) four-walk.Post
 four-walk-taken-apart-requires t c κs = search needs
@@ -236,7 +250,11 @@ four-walk-returns t c =
     let t1 = c .before .before in
     let n1 = t1 .before in
     let k1 = n1 .before .before in
-    found-stop (k1 .child-row .ensures) (n1 .node-walk .ensures) (was-refused _ (t1 .taken-apart .ensures) (c .enum-told .given .1))
+    let st = k1 .before .before in
+    let a = st .args in
+    let way = readWay (now (a .flags)) in
+    let law = read-lawful (now (a .flags)) in
+    found-stop way law (k1 .child-row .ensures) (n1 .node-walk .ensures) (was-refused _ (t1 .taken-apart .ensures) (c .enum-told .given .1))
 
 four-walk-child-row-requires-2 : (t : ℕ) → four-walk-lts.Need-child-row-requires-2 (four-claims t) (four-walk-at t) four-walk.Post
 four-walk-child-row-requires-2 t c κs = search needs
@@ -250,7 +268,9 @@ four-walk-node-walk-requires-2 t c κs =
     let k1 = n1 .before .before in
     let st = k1 .before .before in
     let a = st .args in
-    (part-falls (fourWords (a .row) 0) (childRow (a .row) Quad 1) (k2 .child-row2 .ensures) (at-later (word (childRow (a .row) Quad 0) 0) ((word (childRow (a .row) Quad 1) 0) ∷ ((word (childRow (a .row) Quad 2) 0) ∷ ((word (childRow (a .row) Quad 3) 0) ∷ []))) _ (at-first (word (childRow (a .row) Quad 1) 0) ((word (childRow (a .row) Quad 2) 0) ∷ ((word (childRow (a .row) Quad 3) 0) ∷ [])))) (st .pre .0), found-first (k2 .child-row2 .ensures) (found-asks (k1 .child-row .ensures) (n1 .node-walk .ensures) (was-read _ (t1 .taken-apart .ensures) (o1 .c1 .given .1)) (st .pre .1)))
+    let way = readWay (now (a .flags)) in
+    let law = read-lawful (now (a .flags)) in
+    (part-falls (fourWords (a .row) 0) (childRow (a .row) Quad 1) (k2 .child-row2 .ensures) (at-later (word (childRow (a .row) Quad 0) 0) ((word (childRow (a .row) Quad 1) 0) ∷ ((word (childRow (a .row) Quad 2) 0) ∷ ((word (childRow (a .row) Quad 3) 0) ∷ []))) _ (at-first (word (childRow (a .row) Quad 1) 0) ((word (childRow (a .row) Quad 2) 0) ∷ ((word (childRow (a .row) Quad 3) 0) ∷ [])))) (st .pre .0), found-first way law (k2 .child-row2 .ensures) (found-asks way law (k1 .child-row .ensures) (n1 .node-walk .ensures) (was-walked _ (t1 .taken-apart .ensures) (o1 .c1 .given .1)) (st .pre .1)))
 
 four-walk-taken-apart-requires-2 : (t : ℕ) → four-walk-lts.Need-taken-apart-requires-2 (four-claims t) (four-walk-at t) four-walk.Post
 four-walk-taken-apart-requires-2 t c κs = search needs
@@ -270,7 +290,11 @@ four-walk-returns-2 t c =
     let t1 = o1 .before .before in
     let n1 = t1 .before in
     let k1 = n1 .before .before in
-    found-rest (k1 .child-row .ensures) (n1 .node-walk .ensures) (was-read _ (t1 .taken-apart .ensures) (o1 .c1 .given .1)) (found-stop (k2 .child-row2 .ensures) (n2 .node-walk2 .ensures) (was-refused _ (t2 .taken-apart2 .ensures) (c .enum-told2 .given .1)))
+    let st = k1 .before .before in
+    let a = st .args in
+    let way = readWay (now (a .flags)) in
+    let law = read-lawful (now (a .flags)) in
+    found-rest way law (k1 .child-row .ensures) (n1 .node-walk .ensures) (was-walked _ (t1 .taken-apart .ensures) (o1 .c1 .given .1)) (found-stop way law (k2 .child-row2 .ensures) (n2 .node-walk2 .ensures) (was-refused _ (t2 .taken-apart2 .ensures) (c .enum-told2 .given .1)))
 
 four-walk-child-row-requires-3 : (t : ℕ) → four-walk-lts.Need-child-row-requires-3 (four-claims t) (four-walk-at t) four-walk.Post
 four-walk-child-row-requires-3 t c κs = search needs
@@ -288,7 +312,9 @@ four-walk-node-walk-requires-3 t c κs =
     let k1 = n1 .before .before in
     let st = k1 .before .before in
     let a = st .args in
-    (part-falls (fourWords (a .row) 0) (childRow (a .row) Quad 2) (k3 .child-row3 .ensures) (before-more (word (childRow (a .row) Quad 0) 0) ((word (childRow (a .row) Quad 1) 0) ∷ ((word (childRow (a .row) Quad 2) 0) ∷ ((word (childRow (a .row) Quad 3) 0) ∷ []))) _ (at-later (word (childRow (a .row) Quad 1) 0) ((word (childRow (a .row) Quad 2) 0) ∷ ((word (childRow (a .row) Quad 3) 0) ∷ [])) _ (at-first (word (childRow (a .row) Quad 2) 0) ((word (childRow (a .row) Quad 3) 0) ∷ [])))) (st .pre .0), found-first (k3 .child-row3 .ensures) (found-asks (k2 .child-row2 .ensures) (n2 .node-walk2 .ensures) (was-read _ (t2 .taken-apart2 .ensures) (o2 .c2 .given .1)) (found-asks (k1 .child-row .ensures) (n1 .node-walk .ensures) (was-read _ (t1 .taken-apart .ensures) (o1 .c1 .given .1)) (st .pre .1))))
+    let way = readWay (now (a .flags)) in
+    let law = read-lawful (now (a .flags)) in
+    (part-falls (fourWords (a .row) 0) (childRow (a .row) Quad 2) (k3 .child-row3 .ensures) (before-more (word (childRow (a .row) Quad 0) 0) ((word (childRow (a .row) Quad 1) 0) ∷ ((word (childRow (a .row) Quad 2) 0) ∷ ((word (childRow (a .row) Quad 3) 0) ∷ []))) _ (at-later (word (childRow (a .row) Quad 1) 0) ((word (childRow (a .row) Quad 2) 0) ∷ ((word (childRow (a .row) Quad 3) 0) ∷ [])) _ (at-first (word (childRow (a .row) Quad 2) 0) ((word (childRow (a .row) Quad 3) 0) ∷ [])))) (st .pre .0), found-first way law (k3 .child-row3 .ensures) (found-asks way law (k2 .child-row2 .ensures) (n2 .node-walk2 .ensures) (was-walked _ (t2 .taken-apart2 .ensures) (o2 .c2 .given .1)) (found-asks way law (k1 .child-row .ensures) (n1 .node-walk .ensures) (was-walked _ (t1 .taken-apart .ensures) (o1 .c1 .given .1)) (st .pre .1))))
 
 four-walk-taken-apart-requires-3 : (t : ℕ) → four-walk-lts.Need-taken-apart-requires-3 (four-claims t) (four-walk-at t) four-walk.Post
 four-walk-taken-apart-requires-3 t c κs = search needs
@@ -312,7 +338,11 @@ four-walk-returns-3 t c =
     let t1 = o1 .before .before in
     let n1 = t1 .before in
     let k1 = n1 .before .before in
-    found-rest (k1 .child-row .ensures) (n1 .node-walk .ensures) (was-read _ (t1 .taken-apart .ensures) (o1 .c1 .given .1)) (found-rest (k2 .child-row2 .ensures) (n2 .node-walk2 .ensures) (was-read _ (t2 .taken-apart2 .ensures) (o2 .c2 .given .1)) (found-stop (k3 .child-row3 .ensures) (n3 .node-walk3 .ensures) (was-refused _ (t3 .taken-apart3 .ensures) (c .enum-told3 .given .1))))
+    let st = k1 .before .before in
+    let a = st .args in
+    let way = readWay (now (a .flags)) in
+    let law = read-lawful (now (a .flags)) in
+    found-rest way law (k1 .child-row .ensures) (n1 .node-walk .ensures) (was-walked _ (t1 .taken-apart .ensures) (o1 .c1 .given .1)) (found-rest way law (k2 .child-row2 .ensures) (n2 .node-walk2 .ensures) (was-walked _ (t2 .taken-apart2 .ensures) (o2 .c2 .given .1)) (found-stop way law (k3 .child-row3 .ensures) (n3 .node-walk3 .ensures) (was-refused _ (t3 .taken-apart3 .ensures) (c .enum-told3 .given .1))))
 
 four-walk-child-row-requires-4 : (t : ℕ) → four-walk-lts.Need-child-row-requires-4 (four-claims t) (four-walk-at t) four-walk.Post
 four-walk-child-row-requires-4 t c κs = search needs
@@ -334,7 +364,9 @@ four-walk-node-walk-requires-4 t c κs =
     let k1 = n1 .before .before in
     let st = k1 .before .before in
     let a = st .args in
-    (part-falls (fourWords (a .row) 0) (childRow (a .row) Quad 3) (k4 .child-row4 .ensures) (before-more (word (childRow (a .row) Quad 0) 0) ((word (childRow (a .row) Quad 1) 0) ∷ ((word (childRow (a .row) Quad 2) 0) ∷ ((word (childRow (a .row) Quad 3) 0) ∷ []))) _ (before-more (word (childRow (a .row) Quad 1) 0) ((word (childRow (a .row) Quad 2) 0) ∷ ((word (childRow (a .row) Quad 3) 0) ∷ [])) _ (at-later (word (childRow (a .row) Quad 2) 0) ((word (childRow (a .row) Quad 3) 0) ∷ []) _ (at-first (word (childRow (a .row) Quad 3) 0) [])))) (st .pre .0), found-first (k4 .child-row4 .ensures) (found-asks (k3 .child-row3 .ensures) (n3 .node-walk3 .ensures) (was-read _ (t3 .taken-apart3 .ensures) (o3 .c3 .given .1)) (found-asks (k2 .child-row2 .ensures) (n2 .node-walk2 .ensures) (was-read _ (t2 .taken-apart2 .ensures) (o2 .c2 .given .1)) (found-asks (k1 .child-row .ensures) (n1 .node-walk .ensures) (was-read _ (t1 .taken-apart .ensures) (o1 .c1 .given .1)) (st .pre .1)))))
+    let way = readWay (now (a .flags)) in
+    let law = read-lawful (now (a .flags)) in
+    (part-falls (fourWords (a .row) 0) (childRow (a .row) Quad 3) (k4 .child-row4 .ensures) (before-more (word (childRow (a .row) Quad 0) 0) ((word (childRow (a .row) Quad 1) 0) ∷ ((word (childRow (a .row) Quad 2) 0) ∷ ((word (childRow (a .row) Quad 3) 0) ∷ []))) _ (before-more (word (childRow (a .row) Quad 1) 0) ((word (childRow (a .row) Quad 2) 0) ∷ ((word (childRow (a .row) Quad 3) 0) ∷ [])) _ (at-later (word (childRow (a .row) Quad 2) 0) ((word (childRow (a .row) Quad 3) 0) ∷ []) _ (at-first (word (childRow (a .row) Quad 3) 0) [])))) (st .pre .0), found-first way law (k4 .child-row4 .ensures) (found-asks way law (k3 .child-row3 .ensures) (n3 .node-walk3 .ensures) (was-walked _ (t3 .taken-apart3 .ensures) (o3 .c3 .given .1)) (found-asks way law (k2 .child-row2 .ensures) (n2 .node-walk2 .ensures) (was-walked _ (t2 .taken-apart2 .ensures) (o2 .c2 .given .1)) (found-asks way law (k1 .child-row .ensures) (n1 .node-walk .ensures) (was-walked _ (t1 .taken-apart .ensures) (o1 .c1 .given .1)) (st .pre .1)))))
 
 four-walk-returns-4 : (t : ℕ) → four-walk-lts.Need-returns-4 (four-claims t) (four-walk-at t) four-walk.Post
 four-walk-returns-4 t c =
@@ -351,7 +383,11 @@ four-walk-returns-4 t c =
     let t1 = o1 .before .before in
     let n1 = t1 .before in
     let k1 = n1 .before .before in
-    found-rest (k1 .child-row .ensures) (n1 .node-walk .ensures) (was-read _ (t1 .taken-apart .ensures) (o1 .c1 .given .1)) (found-rest (k2 .child-row2 .ensures) (n2 .node-walk2 .ensures) (was-read _ (t2 .taken-apart2 .ensures) (o2 .c2 .given .1)) (found-rest (k3 .child-row3 .ensures) (n3 .node-walk3 .ensures) (was-read _ (t3 .taken-apart3 .ensures) (o3 .c3 .given .1)) (as-found (k4 .child-row4 .ensures) (c .node-walk4 .ensures))))
+    let st = k1 .before .before in
+    let a = st .args in
+    let way = readWay (now (a .flags)) in
+    let law = read-lawful (now (a .flags)) in
+    found-rest way law (k1 .child-row .ensures) (n1 .node-walk .ensures) (was-walked _ (t1 .taken-apart .ensures) (o1 .c1 .given .1)) (found-rest way law (k2 .child-row2 .ensures) (n2 .node-walk2 .ensures) (was-walked _ (t2 .taken-apart2 .ensures) (o2 .c2 .given .1)) (found-rest way law (k3 .child-row3 .ensures) (n3 .node-walk3 .ensures) (was-walked _ (t3 .taken-apart3 .ensures) (o3 .c3 .given .1)) (as-found way law (k4 .child-row4 .ensures) (c .node-walk4 .ensures))))
 
 node-walk-skipped-requires : (t : ℕ) → node-walk-lts.Need-skipped-requires (node-claims t) (node-walk-at t) node-walk.Post
 node-walk-skipped-requires t c κs = search needs
@@ -382,18 +418,7 @@ node-walk-earlier-requires t c κs = search needs
 
 node-walk-stopping-requires : (t : ℕ) → node-walk-lts.Need-stopping-requires (node-claims t) (node-walk-at t) node-walk.Post
 node-walk-stopping-requires t c κs =
-    let nu = c .before .before in
-    let de = nu .before .before in
-    let os = de .before in
-    let pl = os .before in
-    let ou = pl .before in
-    let el = ou .before in
-    let st = el .before .before .before in
-    let a = st .args in
-    let at = sym (el .before .skipped .ensures) ∙ el .if1 .left in
-    let e = decision-is (now (a .u)) (now (a .flags)) (a .c) (a .row) (a .kept) (ou .out .ensures) (os .open-splits .ensures) (pl .place .ensures) (de .decide .ensures) (nu .number .given .1) in
-    let r = refused-small (now (a .u)) (now (a .flags)) (a .c) (a .row) (a .kept) at e (st .pre .1) in
-    (r .0, rw (c .earlier .ensures) (r .1))
+    search needs
 
 node-walk-enum-known-decision : (t : ℕ) → node-walk-lts.Need-enum-known-decision (node-claims t) (node-walk-at t) node-walk.Post
 node-walk-enum-known-decision t c = search needs
@@ -420,44 +445,19 @@ node-walk-add-going t c =
 
 node-walk-going-requires : (t : ℕ) → node-walk-lts.Need-going-requires (node-claims t) (node-walk-at t) node-walk.Post
 node-walk-going-requires t c κs =
-    let et = c .before .before .before .before in
-    let dr = et .before .before .before in
-    let de = dr .before .before in
-    let os = de .before in
-    let pl = os .before in
-    let ou = pl .before in
-    let el = ou .before in
-    let st = el .before .before .before in
-    let a = st .args in
-    let at = sym (el .before .skipped .ensures) ∙ el .if1 .left in
-    let e = decision-is (now (a .u)) (now (a .flags)) (a .c) (a .row) (a .kept) (ou .out .ensures) (os .open-splits .ensures) (pl .place .ensures) (de .decide .ensures) (dr .decision .given .1) in
-    let r = chosen-small (now (a .u)) (now (a .flags)) (a .c) (a .row) (a .kept) at e (st .pre .1) in
-    let k = c .count2 .ensures .0 in
-    (r .0, rw k (r .1))
+    search needs
 
 node-walk-count-requires-3 : (t : ℕ) → node-walk-lts.Need-count-requires-3 (node-claims t) (node-walk-at t) node-walk.Post
 node-walk-count-requires-3 t c κs = search needs
 
 node-walk-going-requires-2 : (t : ℕ) → node-walk-lts.Need-going-requires-2 (node-claims t) (node-walk-at t) node-walk.Post
 node-walk-going-requires-2 t c κs =
-    let dr = c .before .before .before .before in
-    let de = dr .before .before in
-    let os = de .before in
-    let pl = os .before in
-    let ou = pl .before in
-    let el = ou .before in
-    let st = el .before .before .before in
-    let a = st .args in
-    let at = sym (el .before .skipped .ensures) ∙ el .if1 .left in
-    let e = decision-is (now (a .u)) (now (a .flags)) (a .c) (a .row) (a .kept) (ou .out .ensures) (os .open-splits .ensures) (pl .place .ensures) (de .decide .ensures) (dr .decision .given .1) in
-    let r = chosen-small (now (a .u)) (now (a .flags)) (a .c) (a .row) (a .kept) at e (st .pre .1) in
-    let q = r .1 in
-    let k = c .count3 .ensures .0 in
-    (r .0, rw k (omega arith))
+    search needs
 
 node-walk-children-walk-requires : (t : ℕ) → node-walk-lts.Need-children-walk-requires (node-claims t) (node-walk-at t) node-walk.Post
 node-walk-children-walk-requires t c κs =
-    let c3 = c .before in
+    let g = c in
+    let c3 = g .before in
     let m2 = c3 .before .before in
     let dr = m2 .before .before in
     let de = dr .before .before in
@@ -470,9 +470,12 @@ node-walk-children-walk-requires t c κs =
     let at = sym (el .before .skipped .ensures) ∙ el .if1 .left in
     let e = decision-is (now (a .u)) (now (a .flags)) (a .c) (a .row) (a .kept) (ou .out .ensures) (os .open-splits .ensures) (pl .place .ensures) (de .decide .ensures) (dr .decision .given .1) in
     let sp = split-tag (dr .decision .given .0 .0) (m2 .match2 .keys2) in
-    let f = kids-areas-in (now (a .u)) (now (a .flags)) (a .c) (a .row) (a .kept) at e sp (st .pre .1) in (
+    let f = kids-areas-in (now (a .u)) (now (a .flags)) (a .c) (a .row) (a .kept) at e sp (st .pre .1) in
+    let r = chosen-small (now (a .u)) (now (a .flags)) (a .c) (a .row) (a .kept) at e (st .pre .1) in
+    let q = r .1 in
+    let g-is = g .going2 .ensures ∙ ap (λ k. going (dr .decision .given .0 .1 .0 % 1125899906842624) (k % 16384)) (c3 .count3 .ensures .0) ∙ going-is (dr .decision .given .0 .1 .0) (countOf (a .c)) (r .0) (omega arith) in (
       node-falls (sym (kids-areas-same (now (a .u)) (a .row) (a .kept) _ (dr .decision .given .0 .0)) ∙ f) (st .pre .0),
-      rw (c .going2 .ensures, c3 .count3 .ensures .0, ou .out .ensures) (asked-kids (now (a .u)) (now (a .flags)) (a .c) (a .row) (a .kept) at e sp (st .pre .1)),
+      rw (g-is, ou .out .ensures) (asked-kids (now (a .u)) (now (a .flags)) (a .c) (a .row) (a .kept) at e sp (st .pre .1)),
     )
 
 node-walk-returns-2 : (t : ℕ) → node-walk-lts.Need-returns-2 (node-claims t) (node-walk-at t) node-walk.Post
@@ -488,7 +491,8 @@ node-walk-returns-2 t c =
     let a = st .args in
     let at = sym (el .before .skipped .ensures) ∙ el .if1 .left in
     let e = decision-is (now (a .u)) (now (a .flags)) (a .c) (a .row) (a .kept) (ou .out .ensures) (os .open-splits .ensures) (pl .place .ensures) (de .decide .ensures) (nu .number .given .1) in
-    rw (c .stopping .ensures, ea .earlier .ensures) (walked-refused (now (a .u)) (now (a .flags)) (a .c) (a .row) (a .kept) at e (now (a .rows)))
+    let r = refused-small (now (a .u)) (now (a .flags)) (a .c) (a .row) (a .kept) at e (st .pre .1) in
+    rw (c .stopping .ensures, ea .earlier .ensures, stopping-is _ _ (r .0) (r .1)) (walked-refused (now (a .u)) (now (a .flags)) (a .c) (a .row) (a .kept) at e (now (a .rows)))
 
 node-walk-returns-3 : (t : ℕ) → node-walk-lts.Need-returns-3 (node-claims t) (node-walk-at t) node-walk.Post
 node-walk-returns-3 t c =
@@ -506,7 +510,10 @@ node-walk-returns-3 t c =
     let a = st .args in
     let at = sym (el .before .skipped .ensures) ∙ el .if1 .left in
     let e = decision-is (now (a .u)) (now (a .flags)) (a .c) (a .row) (a .kept) (ou .out .ensures) (os .open-splits .ensures) (pl .place .ensures) (de .decide .ensures) (dr .decision .given .1 ∙ ap (λ x. Chosen x (dr .decision .given .0 .1 .0)) (et .enum-told .given .1)) in
-    rw (c .going .ensures, c2 .count2 .ensures .0) (walked-leaf (now (a .u)) (now (a .flags)) (a .c) (a .row) (a .kept) at e (now (a .rows)) (co .before .put-row-arg .given .0 .1) _ (pr .put-row .ensures .bytes ∙ ap (λ i. putWord (now (a .rows)) (i * 8) (a .row)) (co .count .ensures .0)))
+    let r = chosen-small (now (a .u)) (now (a .flags)) (a .c) (a .row) (a .kept) at e (st .pre .1) in
+    let q = r .1 in
+    rw (c .going .ensures, c2 .count2 .ensures .0, going-is (dr .decision .given .0 .1 .0) (countOf (a .c) + 1) (r .0) (omega arith))
+    (walked-leaf (now (a .u)) (now (a .flags)) (a .c) (a .row) (a .kept) at e (now (a .rows)) (co .before .put-row-arg .given .0 .1) _ (pr .put-row .ensures .bytes ∙ ap (λ i. putWord (now (a .rows)) (i * 8) (a .row)) (co .count .ensures .0)))
 
 node-walk-returns-4 : (t : ℕ) → node-walk-lts.Need-returns-4 (node-claims t) (node-walk-at t) node-walk.Post
 node-walk-returns-4 t c =
@@ -522,11 +529,15 @@ node-walk-returns-4 t c =
     let st = el .before .before .before in
     let a = st .args in
     let at = sym (el .before .skipped .ensures) ∙ el .if1 .left in
+    let way = readWay (now (a .flags)) in
     let e = decision-is (now (a .u)) (now (a .flags)) (a .c) (a .row) (a .kept) (ou .out .ensures) (os .open-splits .ensures) (pl .place .ensures) (de .decide .ensures) (dr .decision .given .1) in
     let sp = split-tag (dr .decision .given .0 .0) (m2 .match2 .keys2) in
+    let r = chosen-small (now (a .u)) (now (a .flags)) (a .c) (a .row) (a .kept) at e (st .pre .1) in
+    let q = r .1 in
+    let g-is = g .going2 .ensures ∙ ap (λ k. going (dr .decision .given .0 .1 .0 % 1125899906842624) (k % 16384)) (c3 .count3 .ensures .0) ∙ going-is (dr .decision .given .0 .1 .0) (countOf (a .c)) (r .0) (omega arith) in
     walked-kids (now (a .u)) (now (a .flags)) (a .c) (a .row) (a .kept) at e sp (now (a .rows)) _ (c .children-walk .result)
-    (subst (λ g. Walked (now (a .u)) (now (a .flags)) g (kidWords (now (a .u)) (a .row) (a .kept) (reachesOut (now (a .u)) (a .row) (a .kept)) (dr .decision .given .0 .0)) (now (a .rows)) (c .children-walk .result) (c .children-walk .last .1 .1 .0)) (g .going2 .ensures ∙ ap (λ k. going (dr .decision .given .0 .1 .0) k) (c3 .count3 .ensures .0))
-    (subst (λ o. Walked (now (a .u)) (now (a .flags)) (g .going2 .result) (kidWords (now (a .u)) (a .row) (a .kept) o (dr .decision .given .0 .0)) (now (a .rows)) (c .children-walk .result) (c .children-walk .last .1 .1 .0)) (ou .out .ensures) (c .children-walk .ensures)))
+    (subst (λ g. Walked way (now (a .u)) g (kidWords (now (a .u)) (a .row) (a .kept) (reachesOut (now (a .u)) (a .row) (a .kept)) (dr .decision .given .0 .0)) (now (a .rows)) (c .children-walk .result) (c .children-walk .last .1 .1 .0)) g-is
+    (subst (λ o. Walked way (now (a .u)) (g .going2 .result) (kidWords (now (a .u)) (a .row) (a .kept) o (dr .decision .given .0 .0)) (now (a .rows)) (c .children-walk .result) (c .children-walk .last .1 .1 .0)) (ou .out .ensures) (c .children-walk .ensures)))
 
 three-walk-child-row-requires : (t : ℕ) → three-walk-lts.Need-child-row-requires (three-claims t) (three-walk-at t) three-walk.Post
 three-walk-child-row-requires t c κs = search needs
@@ -536,7 +547,9 @@ three-walk-node-walk-requires t c κs =
     let k1 = c .before in
     let st = k1 .before .before in
     let a = st .args in
-    (part-falls (threeWords (a .row) (a .d) 0 0) (childRow (a .row) (Ternary (a .d)) 0) (k1 .child-row .ensures) (at-first-of (word (childRow (a .row) (Ternary (a .d)) 0) 0) (word (childRow (a .row) (Ternary (a .d)) 1) 0) ((word (childRow (a .row) (Ternary (a .d)) 2) 0) ∷ [])) (st .pre .0), found-first (k1 .child-row .ensures) (st .pre .1))
+    let way = readWay (now (a .flags)) in
+    let law = read-lawful (now (a .flags)) in
+    (part-falls (threeWords (a .row) (a .d) 0 0) (childRow (a .row) (Ternary (a .d)) 0) (k1 .child-row .ensures) (at-first-of (word (childRow (a .row) (Ternary (a .d)) 0) 0) (word (childRow (a .row) (Ternary (a .d)) 1) 0) ((word (childRow (a .row) (Ternary (a .d)) 2) 0) ∷ [])) (st .pre .0), found-first way law (k1 .child-row .ensures) (st .pre .1))
 
 three-walk-taken-apart-requires : (t : ℕ) → three-walk-lts.Need-taken-apart-requires (three-claims t) (three-walk-at t) three-walk.Post
 three-walk-taken-apart-requires t c κs = search needs
@@ -552,7 +565,11 @@ three-walk-returns t c =
     let t1 = c .before .before in
     let n1 = t1 .before in
     let k1 = n1 .before .before in
-    found-stop (k1 .child-row .ensures) (n1 .node-walk .ensures) (was-refused _ (t1 .taken-apart .ensures) (c .enum-told .given .1))
+    let st = k1 .before .before in
+    let a = st .args in
+    let way = readWay (now (a .flags)) in
+    let law = read-lawful (now (a .flags)) in
+    found-stop way law (k1 .child-row .ensures) (n1 .node-walk .ensures) (was-refused _ (t1 .taken-apart .ensures) (c .enum-told .given .1))
 
 three-walk-child-row-requires-2 : (t : ℕ) → three-walk-lts.Need-child-row-requires-2 (three-claims t) (three-walk-at t) three-walk.Post
 three-walk-child-row-requires-2 t c κs = search needs
@@ -566,7 +583,9 @@ three-walk-node-walk-requires-2 t c κs =
     let k1 = n1 .before .before in
     let st = k1 .before .before in
     let a = st .args in
-    (part-falls (threeWords (a .row) (a .d) 0 0) (childRow (a .row) (Ternary (a .d)) 1) (k2 .child-row2 .ensures) (at-later (word (childRow (a .row) (Ternary (a .d)) 0) 0) ((word (childRow (a .row) (Ternary (a .d)) 1) 0) ∷ ((word (childRow (a .row) (Ternary (a .d)) 2) 0) ∷ [])) _ (at-first (word (childRow (a .row) (Ternary (a .d)) 1) 0) ((word (childRow (a .row) (Ternary (a .d)) 2) 0) ∷ []))) (st .pre .0), found-first (k2 .child-row2 .ensures) (found-asks (k1 .child-row .ensures) (n1 .node-walk .ensures) (was-read _ (t1 .taken-apart .ensures) (o1 .c1 .given .1)) (st .pre .1)))
+    let way = readWay (now (a .flags)) in
+    let law = read-lawful (now (a .flags)) in
+    (part-falls (threeWords (a .row) (a .d) 0 0) (childRow (a .row) (Ternary (a .d)) 1) (k2 .child-row2 .ensures) (at-later (word (childRow (a .row) (Ternary (a .d)) 0) 0) ((word (childRow (a .row) (Ternary (a .d)) 1) 0) ∷ ((word (childRow (a .row) (Ternary (a .d)) 2) 0) ∷ [])) _ (at-first (word (childRow (a .row) (Ternary (a .d)) 1) 0) ((word (childRow (a .row) (Ternary (a .d)) 2) 0) ∷ []))) (st .pre .0), found-first way law (k2 .child-row2 .ensures) (found-asks way law (k1 .child-row .ensures) (n1 .node-walk .ensures) (was-walked _ (t1 .taken-apart .ensures) (o1 .c1 .given .1)) (st .pre .1)))
 
 three-walk-taken-apart-requires-2 : (t : ℕ) → three-walk-lts.Need-taken-apart-requires-2 (three-claims t) (three-walk-at t) three-walk.Post
 three-walk-taken-apart-requires-2 t c κs = search needs
@@ -586,7 +605,11 @@ three-walk-returns-2 t c =
     let t1 = o1 .before .before in
     let n1 = t1 .before in
     let k1 = n1 .before .before in
-    found-rest (k1 .child-row .ensures) (n1 .node-walk .ensures) (was-read _ (t1 .taken-apart .ensures) (o1 .c1 .given .1)) (found-stop (k2 .child-row2 .ensures) (n2 .node-walk2 .ensures) (was-refused _ (t2 .taken-apart2 .ensures) (c .enum-told2 .given .1)))
+    let st = k1 .before .before in
+    let a = st .args in
+    let way = readWay (now (a .flags)) in
+    let law = read-lawful (now (a .flags)) in
+    found-rest way law (k1 .child-row .ensures) (n1 .node-walk .ensures) (was-walked _ (t1 .taken-apart .ensures) (o1 .c1 .given .1)) (found-stop way law (k2 .child-row2 .ensures) (n2 .node-walk2 .ensures) (was-refused _ (t2 .taken-apart2 .ensures) (c .enum-told2 .given .1)))
 
 three-walk-child-row-requires-3 : (t : ℕ) → three-walk-lts.Need-child-row-requires-3 (three-claims t) (three-walk-at t) three-walk.Post
 three-walk-child-row-requires-3 t c κs = search needs
@@ -604,7 +627,9 @@ three-walk-node-walk-requires-3 t c κs =
     let k1 = n1 .before .before in
     let st = k1 .before .before in
     let a = st .args in
-    (part-falls (threeWords (a .row) (a .d) 0 0) (childRow (a .row) (Ternary (a .d)) 2) (k3 .child-row3 .ensures) (before-more (word (childRow (a .row) (Ternary (a .d)) 0) 0) ((word (childRow (a .row) (Ternary (a .d)) 1) 0) ∷ ((word (childRow (a .row) (Ternary (a .d)) 2) 0) ∷ [])) _ (at-later (word (childRow (a .row) (Ternary (a .d)) 1) 0) ((word (childRow (a .row) (Ternary (a .d)) 2) 0) ∷ []) _ (at-first (word (childRow (a .row) (Ternary (a .d)) 2) 0) []))) (st .pre .0), found-first (k3 .child-row3 .ensures) (found-asks (k2 .child-row2 .ensures) (n2 .node-walk2 .ensures) (was-read _ (t2 .taken-apart2 .ensures) (o2 .c2 .given .1)) (found-asks (k1 .child-row .ensures) (n1 .node-walk .ensures) (was-read _ (t1 .taken-apart .ensures) (o1 .c1 .given .1)) (st .pre .1))))
+    let way = readWay (now (a .flags)) in
+    let law = read-lawful (now (a .flags)) in
+    (part-falls (threeWords (a .row) (a .d) 0 0) (childRow (a .row) (Ternary (a .d)) 2) (k3 .child-row3 .ensures) (before-more (word (childRow (a .row) (Ternary (a .d)) 0) 0) ((word (childRow (a .row) (Ternary (a .d)) 1) 0) ∷ ((word (childRow (a .row) (Ternary (a .d)) 2) 0) ∷ [])) _ (at-later (word (childRow (a .row) (Ternary (a .d)) 1) 0) ((word (childRow (a .row) (Ternary (a .d)) 2) 0) ∷ []) _ (at-first (word (childRow (a .row) (Ternary (a .d)) 2) 0) []))) (st .pre .0), found-first way law (k3 .child-row3 .ensures) (found-asks way law (k2 .child-row2 .ensures) (n2 .node-walk2 .ensures) (was-walked _ (t2 .taken-apart2 .ensures) (o2 .c2 .given .1)) (found-asks way law (k1 .child-row .ensures) (n1 .node-walk .ensures) (was-walked _ (t1 .taken-apart .ensures) (o1 .c1 .given .1)) (st .pre .1))))
 
 three-walk-returns-3 : (t : ℕ) → three-walk-lts.Need-returns-3 (three-claims t) (three-walk-at t) three-walk.Post
 three-walk-returns-3 t c =
@@ -617,7 +642,11 @@ three-walk-returns-3 t c =
     let t1 = o1 .before .before in
     let n1 = t1 .before in
     let k1 = n1 .before .before in
-    found-rest (k1 .child-row .ensures) (n1 .node-walk .ensures) (was-read _ (t1 .taken-apart .ensures) (o1 .c1 .given .1)) (found-rest (k2 .child-row2 .ensures) (n2 .node-walk2 .ensures) (was-read _ (t2 .taken-apart2 .ensures) (o2 .c2 .given .1)) (as-found (k3 .child-row3 .ensures) (c .node-walk3 .ensures)))
+    let st = k1 .before .before in
+    let a = st .args in
+    let way = readWay (now (a .flags)) in
+    let law = read-lawful (now (a .flags)) in
+    found-rest way law (k1 .child-row .ensures) (n1 .node-walk .ensures) (was-walked _ (t1 .taken-apart .ensures) (o1 .c1 .given .1)) (found-rest way law (k2 .child-row2 .ensures) (n2 .node-walk2 .ensures) (was-walked _ (t2 .taken-apart2 .ensures) (o2 .c2 .given .1)) (as-found way law (k3 .child-row3 .ensures) (c .node-walk3 .ensures)))
 
 two-walk-child-row-requires : (t : ℕ) → two-walk-lts.Need-child-row-requires (two-claims t) (two-walk-at t) two-walk.Post
 two-walk-child-row-requires t c κs = search needs
@@ -627,7 +656,9 @@ two-walk-node-walk-requires t c κs =
     let k1 = c .before in
     let st = k1 .before .before in
     let a = st .args in
-    (part-falls (twoWords (a .row) (a .d) 0) (childRow (a .row) (Binary (a .d)) 0) (k1 .child-row .ensures) (at-first-of (word (childRow (a .row) (Binary (a .d)) 0) 0) (word (childRow (a .row) (Binary (a .d)) 1) 0) []) (st .pre .0), found-first (k1 .child-row .ensures) (st .pre .1))
+    let way = readWay (now (a .flags)) in
+    let law = read-lawful (now (a .flags)) in
+    (part-falls (twoWords (a .row) (a .d) 0) (childRow (a .row) (Binary (a .d)) 0) (k1 .child-row .ensures) (at-first-of (word (childRow (a .row) (Binary (a .d)) 0) 0) (word (childRow (a .row) (Binary (a .d)) 1) 0) []) (st .pre .0), found-first way law (k1 .child-row .ensures) (st .pre .1))
 
 two-walk-taken-apart-requires : (t : ℕ) → two-walk-lts.Need-taken-apart-requires (two-claims t) (two-walk-at t) two-walk.Post
 two-walk-taken-apart-requires t c κs = search needs
@@ -643,7 +674,11 @@ two-walk-returns t c =
     let t1 = c .before .before in
     let n1 = t1 .before in
     let k1 = n1 .before .before in
-    found-stop (k1 .child-row .ensures) (n1 .node-walk .ensures) (was-refused _ (t1 .taken-apart .ensures) (c .enum-told .given .1))
+    let st = k1 .before .before in
+    let a = st .args in
+    let way = readWay (now (a .flags)) in
+    let law = read-lawful (now (a .flags)) in
+    found-stop way law (k1 .child-row .ensures) (n1 .node-walk .ensures) (was-refused _ (t1 .taken-apart .ensures) (c .enum-told .given .1))
 
 two-walk-child-row-requires-2 : (t : ℕ) → two-walk-lts.Need-child-row-requires-2 (two-claims t) (two-walk-at t) two-walk.Post
 two-walk-child-row-requires-2 t c κs = search needs
@@ -657,7 +692,9 @@ two-walk-node-walk-requires-2 t c κs =
     let k1 = n1 .before .before in
     let st = k1 .before .before in
     let a = st .args in
-    (part-falls (twoWords (a .row) (a .d) 0) (childRow (a .row) (Binary (a .d)) 1) (k2 .child-row2 .ensures) (at-later (word (childRow (a .row) (Binary (a .d)) 0) 0) ((word (childRow (a .row) (Binary (a .d)) 1) 0) ∷ []) _ (at-first (word (childRow (a .row) (Binary (a .d)) 1) 0) [])) (st .pre .0), found-first (k2 .child-row2 .ensures) (found-asks (k1 .child-row .ensures) (n1 .node-walk .ensures) (was-read _ (t1 .taken-apart .ensures) (o1 .c1 .given .1)) (st .pre .1)))
+    let way = readWay (now (a .flags)) in
+    let law = read-lawful (now (a .flags)) in
+    (part-falls (twoWords (a .row) (a .d) 0) (childRow (a .row) (Binary (a .d)) 1) (k2 .child-row2 .ensures) (at-later (word (childRow (a .row) (Binary (a .d)) 0) 0) ((word (childRow (a .row) (Binary (a .d)) 1) 0) ∷ []) _ (at-first (word (childRow (a .row) (Binary (a .d)) 1) 0) [])) (st .pre .0), found-first way law (k2 .child-row2 .ensures) (found-asks way law (k1 .child-row .ensures) (n1 .node-walk .ensures) (was-walked _ (t1 .taken-apart .ensures) (o1 .c1 .given .1)) (st .pre .1)))
 
 two-walk-returns-2 : (t : ℕ) → two-walk-lts.Need-returns-2 (two-claims t) (two-walk-at t) two-walk.Post
 two-walk-returns-2 t c =
@@ -666,7 +703,11 @@ two-walk-returns-2 t c =
     let t1 = o1 .before .before in
     let n1 = t1 .before in
     let k1 = n1 .before .before in
-    found-rest (k1 .child-row .ensures) (n1 .node-walk .ensures) (was-read _ (t1 .taken-apart .ensures) (o1 .c1 .given .1)) (as-found (k2 .child-row2 .ensures) (c .node-walk2 .ensures))
+    let st = k1 .before .before in
+    let a = st .args in
+    let way = readWay (now (a .flags)) in
+    let law = read-lawful (now (a .flags)) in
+    found-rest way law (k1 .child-row .ensures) (n1 .node-walk .ensures) (was-walked _ (t1 .taken-apart .ensures) (o1 .c1 .given .1)) (as-found way law (k2 .child-row2 .ensures) (c .node-walk2 .ensures))
 
 pub +children-walk+four-walk+node-walk+three-walk+two-walk-spec : {M : Type 1} → statement M
 +children-walk+four-walk+node-walk+three-walk+two-walk-spec =

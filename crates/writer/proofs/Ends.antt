@@ -1,0 +1,64 @@
+-- The ends of a way back, over plain values: each way in which the code answers is what the delivery says.
+use Prim.Native.Nat.{ℕ, _/_, _≤_, _<_}
+use mathlib.Core.Path.{_≡_, refl, sym, ap, _∙_}
+use mathlib.Core.Bool.{Bool, true, false, cond}
+use mathlib.Core.List.{List}
+use native.Mathlib.Omega.{arith}
+use lib.Dec.{ltb}
+use lib.ListN.{length}
+use borrow.Author.Tests.{lt-ltb, le-ltb}
+use denote.Enum
+use Rattle.blocks.specs.Copies.{copied}
+use Rattle.blocks.proofs.Pastes.{copied-all}
+use Rattle.unit.specs.declared.Answer.the-variants.{Accepted, Refused}
+use Rattle.unit.specs.Answers.{Meets}
+use Rattle.nodes.specs.declared.state.Child.{Child}
+use Rattle.nodes.specs.declared.state.Child.the-variants as child
+use Rattle.nodes.proofs.state.Child as C
+use Rattle.nodes.specs.State.{placeOf, countOf, numberOf, refusedAt}
+use Rattle.nodes.proofs.Apart.{was-walked}
+use Rattle.writer.specs.Delivery.{deliverFlags}
+
+-- a number that is not of a walk that goes on
+refused-only : (t : Bool) (answer : ℕ) → denote.Enum.Declared.tagOf C.the-type (cond t (child.Walked answer) (child.Refused answer)) ≡ 1 → t ≡ false
+refused-only true answer e = absurd (omega arith)
+refused-only false answer e = refl
+
+module _ (answer : ℕ) (w : Child) (apart : w ≡ cond (ltb answer 9223372036854775808) (child.Walked answer) (child.Refused answer)) (scratch rows b : List ℕ) where
+  pub all-stop : denote.Enum.Declared.tagOf C.the-type w ≡ 1 → (number place : ℕ) → number ≡ numberOf answer → place ≡ refusedAt answer
+      → Meets (deliverFlags answer scratch rows b) (Refused number place) b
+  unfolding deliverFlags
+  all-stop tag number place e f =
+      let h = refused-only (ltb answer 9223372036854775808) answer (sym (ap (denote.Enum.Declared.tagOf C.the-type) apart) ∙ tag) in
+      rw (h, e, f) (record { answers = refl; leaves = refl })
+
+  module _ (end : ℕ) (read : w ≡ child.Walked end) where
+    read-is : (end ≡ answer) × (answer < 9223372036854775808)
+    read-is = was-walked answer apart read
+
+    on : ltb answer 9223372036854775808 ≡ true
+    on = lt-ltb _ _ (read-is .1)
+
+    module _ (at : ℕ) (at-is : at ≡ placeOf end) where
+      at-place : placeOf answer ≡ at
+      at-place = sym (at-is ∙ ap (λ c. placeOf c) (read-is .0))
+
+      pub all-left : at < length rows / 8 → Meets (deliverFlags answer scratch rows b) (Refused 16 0) b
+      unfolding deliverFlags
+      all-left h = rw (on, at-place, lt-ltb _ _ h) (record { answers = refl; leaves = refl })
+
+      module _ (all : length rows / 8 ≤ at) (n : ℕ) (n-is : (n ≡ countOf end) × (n < 16384)) where
+        n-count : countOf answer ≡ n
+        n-count = sym (n-is .0 ∙ ap (λ c. countOf c) (read-is .0))
+
+        pub all-short : length b < n → Meets (deliverFlags answer scratch rows b) (Refused 17 n) b
+        unfolding deliverFlags
+        all-short h = rw (on, at-place, n-count, le-ltb _ _ all, lt-ltb _ _ h) (record { answers = refl; leaves = refl })
+
+        pub all-done : n ≤ length b → (answer < 9223372036854775808 → countOf answer ≤ 8192) → length scratch ≡ 8192 → (z : List ℕ) → z ≡ copied n scratch b
+            → Meets (deliverFlags answer scratch rows b) (Accepted n) z
+        unfolding deliverFlags
+        all-done h few len z e =
+            let m = few (read-is .1) in
+            let c = n-count in
+            rw (on, at-place, n-count, le-ltb _ _ all, le-ltb _ _ h) (record { answers = refl; leaves = e ∙ copied-all n scratch b h (omega arith) })

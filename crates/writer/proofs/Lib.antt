@@ -1,0 +1,12 @@
+pub mod Decisions
+pub mod Delivery
+pub mod Ends
+pub mod NextRows
+pub mod Puts
+pub mod Units
+pub mod Whole
+pub mod Way
+pub mod RowWords
+pub mod Node
+pub mod Numbers
+pub mod Found

@@ -1,0 +1,2 @@
+pub mod Ahead
+pub mod Delivery

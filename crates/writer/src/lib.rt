@@ -1,0 +1,57 @@
+// The way back of a single unit: rows become the flags that give them, or document 01's refusals 1 to 10 and 15 to 17.
+mod ahead;
+mod compare;
+mod deliver;
+mod put;
+mod scratch;
+mod walk;
+
+use settings::Located;
+use settings::Settings;
+use tree::Decision;
+use tree::Limits;
+use tree::Node;
+use unit::Answer;
+ghost use mathlib.Core.Path.{_≡_};
+ghost use Prim.Native.Nat.{_%_};
+ghost use lib.ListN.{length};
+ghost use Rattle.tree.specs.Kind.{luma};
+ghost use Rattle.unit.specs.Answers.{Meets};
+ghost use Rattle.unit.specs.Writer.{writeRows, writeFlags};
+ghost use Rattle.nodes.specs.Rooted.{Rooted};
+
+// The way back of whole rows by a walk into a scratch table.
+fn write_all(l: Limits, root: Node, rows: &[u8], flags: &mut [u8]) -> Answer
+    requires { ⌜ Rooted l root × (length (now rows) % 8 ≡ 0) ⌝ }
+    ensures { λ r. ⌜ Meets (writeRows (luma l) root (now (rows .entry)) (now (flags .entry))) r (now (flags .exit)) ⌝ }
+{
+    let u = nodes::tables(l);
+    let row = blocks::row_word(root);
+    // A root is above all cuts, as a child of a quad split is, and may reach past the picture.
+    let kept = nodes::kept_under(&u, row, 0, true, Decision::Quad, 0);
+    let mut scratch = [0u8; 8192];
+    let answer = walk::node_back(&u, rows, &mut scratch, 0, row, kept);
+    deliver::all_flags(answer, &scratch, rows, flags)
+}
+
+// The way back of a table of whole rows, or refusal 15.
+fn write_rows(l: Limits, root: Node, rows: &[u8], flags: &mut [u8]) -> Answer
+    requires { ⌜ Rooted l root ⌝ }
+    ensures { λ r. ⌜ Meets (writeRows (luma l) root (now (rows .entry)) (now (flags .entry))) r (now (flags .exit)) ⌝ }
+{
+    if rows.len() % 8 != 0 {
+        return Answer::Refused(15, rows.len() / 8);
+    }
+    write_all(l, root, rows, flags)
+}
+
+// Turns the rows of the unit at an address back: answers the number of its flags, which are then the first bytes of the
+// flag buffer, or a refusal, which leaves the buffer as it was.
+pub fn write_flags(s: Settings, address: usize, rows: &[u8], flags: &mut [u8]) -> Answer
+    ensures { λ r. ⌜ Meets (writeFlags s address (now (rows .entry)) (now (flags .entry))) r (now (flags .exit)) ⌝ }
+{
+    match settings::unit_at(s, address) {
+        Located::Refused(number) => Answer::Refused(number, 0),
+        Located::At(q) => write_rows(unit::limits(s), unit::root(q), rows, flags),
+    }
+}
