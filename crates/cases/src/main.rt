@@ -405,8 +405,8 @@ fn say_answer(text: &[u8], a: Answer) {
     say(b", ", a.value() as u64);
 }
 
-// Reads flags into a buffer that holds the 1,024 rows of the largest table, and turns so many rows back: number and count
-// of each answer, and whether the flags are the same.
+// Reads flags into a buffer that holds the 1,024 rows of the largest table, and turns so many rows back: number and
+// count of each answer, and whether the flags are the same.
 fn say_both(text: &[u8], s: Settings, flags: &[u8], count: usize)
     requires { ⌜ count ≤ 1024 ⌝ }
 {

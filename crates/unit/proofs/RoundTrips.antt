@@ -1,7 +1,9 @@
--- There and back: flags that are accepted come back from their rows, and rows that are accepted come back from their flags.
-use Prim.Native.Nat.{ℕ, _*_, _/_, _≤_}
-use mathlib.Core.Path.{_≡_, sym, subst, _∙_}
+-- There and back: flags that are accepted come back from their rows, rows that are accepted come back from their flags, and whole rows are refused with 16
+-- exactly where no flags give them.
+use Prim.Native.Nat.{ℕ, _*_, _/_, _%_, _≤_}
+use mathlib.Core.Path.{_≡_, sym, ap, subst, _∙_}
 use mathlib.Core.List.{List}
+use mathlib.Core.Logic.{_↔_}
 use native.Mathlib.Omega.{arith}
 use borrow.Author.Tests.{eqb-true}
 use lib.ListN.{length, take}
@@ -10,7 +12,7 @@ use Rattle.settings.specs.Units.{unitRefusal}
 use Rattle.tree.specs.Rows.{tableBytes}
 use Rattle.tree.specs.Tree.{flagsOf, rowsOf}
 use Rattle.unit.specs.declared.Answer.the-variants.{Accepted}
-use Rattle.unit.specs.Answers.{accepted}
+use Rattle.unit.specs.Answers.{numberOf, accepted}
 use Rattle.unit.specs.Reader.{readUnit}
 use Rattle.unit.specs.Writer.{writeFlags}
 use Rattle.unit.specs.Exactly.{UnitTree, Bytes}
@@ -65,3 +67,34 @@ module _ (s : Settings) (a : ℕ) where
       let t = turns-exactly s a h .only bytes small buffer m e in
       subst (λ x. writeFlags s a x buffer .answer ≡ Accepted m → length x ≤ length lent → readUnit s a (take m (writeFlags s a x buffer .buffer)) lent ≡ accepted (length x / 8) x lent)
       (t .1) (tree-rows h (t .0) buffer m lent) e
+
+  -- ---- whole rows are refused with 16 exactly where no flags give them
+
+  -- the table that an accepted reading leaves
+  given : unitRefusal s a ≡ 0 → (t : UnitTree s a) (buffer : List ℕ) (m : ℕ) → readUnit s a (flagsOf t) buffer .answer ≡ Accepted m
+      → take (8 * m) (readUnit s a (flagsOf t) buffer .buffer) ≡ tableBytes (rowsOf t)
+  given h t buffer m e =
+      let r = reads-exactly s a h .reads t buffer in
+      let d = delivered 14 (length (rowsOf t)) (tableBytes (rowsOf t)) buffer (rw r at e) in
+      let n : 8 * m ≡ length (tableBytes (rowsOf t)) = sym (table-length (rowsOf t) ∙ rw (d .0)) in
+      rw (r, n) (d .1)
+
+  -- a tree's flags give its table, read into a buffer as long as it
+  gives : unitRefusal s a ≡ 0 → (t : UnitTree s a) → readUnit s a (flagsOf t) (tableBytes (rowsOf t)) .answer ≡ Accepted (length (rowsOf t))
+  gives h t = ap (λ o. o .answer) (reads-exactly s a h .reads t (tableBytes (rowsOf t)) ∙ deliver-all 14 _ _ (tableBytes (rowsOf t)) (omega arith))
+
+  -- flags give a table: read into some buffer they are accepted, and the buffer begins with it
+  abbrev pub FlagsGive : List ℕ → Type 0
+  FlagsGive bytes = (flags : List ℕ) × (buffer : List ℕ) × (m : ℕ) × (readUnit s a flags buffer .answer ≡ Accepted m) × (take (8 * m) (readUnit s a flags buffer .buffer) ≡ bytes)
+
+  pub refused-exactly : (bytes : List ℕ) → Bytes bytes → length bytes % 8 ≡ 0 → unitRefusal s a ≡ 0 → (buffer : List ℕ)
+      → (numberOf (writeFlags s a bytes buffer .answer) ≡ 16) ↔ (FlagsGive bytes → ⊥)
+  refused-exactly bytes small whole h buffer =
+      let exact = turns-exactly s a h .refused bytes small whole buffer in (
+        λ n g.
+            let t = reads-exactly s a h .only (g .0) (g .1) (g .2) (g .3) in
+            exact .0 n (t .0)
+            (sym (given h (t .0) (g .1) (g .2) (subst (λ x. readUnit s a x (g .1) .answer ≡ Accepted (g .2)) (sym (t .1)) (g .3)))
+            ∙ subst (λ x. take (8 * g .2) (readUnit s a x (g .1) .buffer) ≡ bytes) (sym (t .1)) (g .4)),
+        λ none. exact .1 (λ t e. none (flagsOf t, tableBytes (rowsOf t), length (rowsOf t), gives h t, given h t (tableBytes (rowsOf t)) (length (rowsOf t)) (gives h t) ∙ e)),
+      )

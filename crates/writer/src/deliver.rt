@@ -1,4 +1,5 @@
-// The end of a way back: 16 where rows are left, 17, or its flags in the lent buffer. Nothing is written before all are passed.
+// The end of a way back: 16 where rows are left, 17, or its flags in the lent buffer. Nothing is written before all
+// are passed.
 use crate::scratch::Scratch;
 use nodes::Child;
 use unit::Answer;
