@@ -441,8 +441,9 @@ fn same(back: &[u8; 512], flags: &[u8]) -> u64 {
     equal
 }
 
-// 1,024 blocks of 4 by 4: a split flag of 1 for each of the 1 + 4 + 16 + 64 + 256 quads. And 16 blocks of 8 by 8 one below
-// the other, all that a picture 8 samples wide has of its unit: their quads are inferred, and each block has one flag.
+// 1,024 blocks of 4 by 4: a split flag of 1 for each of the 1 + 4 + 16 + 64 + 256 quads. And 16 blocks of 8 by 8 one
+// below the other, all that a picture 8 samples wide has of its unit: their quads are inferred, and each block has one
+// flag.
 fn say_long() {
     let mut s = setting_128();
     s.minqt = 4;

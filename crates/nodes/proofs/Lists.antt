@@ -14,6 +14,10 @@ use Rattle.nodes.specs.Walks.{Way, Room, walkOver, ending, Ready, Asked,
 use Rattle.nodes.proofs.Lawful.{Step, Lawful}
 use Rattle.nodes.proofs.Chains.{goes-on, placed-rest, room-rest, done-rest, done-stop}
 
+-- numbers of one node stand for one node
+pub alone : {l : Limits} {w : Word} {ns : List Node} (P : List Node → Type 0) → AllStand l ns (w ∷ []) → ((n : Node) → Stands l n w → P (n ∷ [])) → P ns
+alone P (one-more {n = n} s no-more) f = f n s
+
 -- room for several nodes is room for the first
 first-room : (rows flags : ℕ) (n : Node) (ns : List Node) → Room rows flags (n ∷ ns) → Room rows flags (n ∷ [])
 unfolding areasOf spareOf

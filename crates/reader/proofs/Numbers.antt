@@ -25,12 +25,13 @@ use Rattle.laws.proofs.Near.{decide-near, refused-near}
 use Rattle.laws.proofs.Steps.{isSplit, split-allowed}
 use Rattle.nodes.specs.Tables.{tableOf}
 use Rattle.nodes.specs.Words.{skips, reachesOut, openIn}
-use Rattle.nodes.specs.Stands.{Word, word, Stands, AllStand, no-more, one-more, kidWords}
+use Rattle.nodes.specs.Stands.{word, Stands, kidWords}
 use Rattle.nodes.proofs.RowFields.{width-says, height-says}
 use Rattle.nodes.proofs.Seen.{seen}
 use Rattle.nodes.proofs.Stands.{child-stands}
 use Rattle.nodes.specs.State.{going, stopping, placeOf, countOf}
 use Rattle.nodes.specs.Walks.{Room, walkOver, Ready, Asked, Done, Walked}
+use Rattle.nodes.proofs.Lists.{alone}
 use Rattle.nodes.proofs.Chains.{going-place, going-count}
 use Rattle.nodes.proofs.Measure.{areaIn, areasIn, same-areas}
 use Rattle.reader.specs.Walking.{readWay}
@@ -98,10 +99,6 @@ module _ {l : Limits} {n : Node} {row kept : ℕ} (s : Stands l n (word row kept
       kids-done {b} w = done-kids l n flags c b (here at) shallow (decided flags c e) split allowed (w .done l (children l n d) kids-ready)
 
 -- ---- what the code knows: some node that its numbers stand for, and the same for all such nodes
-
--- numbers of one node stand for one node
-alone : {l : Limits} {w : Word} {ns : List Node} (P : List Node → Type 0) → AllStand l ns (w ∷ []) → ((n : Node) → Stands l n w → P (n ∷ [])) → P ns
-alone P (one-more {n = n} s no-more) f = f n s
 
 module _ (u flags : List ℕ) (c row kept : ℕ) where
   -- the decision, from what the code was answered

@@ -26,7 +26,7 @@ use Rattle.laws.proofs.Steps.{isSplit}
 use Rattle.nodes.specs.State.{going, stopping, placeOf, countOf}
 use Rattle.nodes.specs.Tables.{tableOf, limitsIn}
 use Rattle.nodes.specs.Words.{nodeIn, skips, reachesOut, openIn}
-use Rattle.nodes.specs.Stands.{Word, word, Stands, AllStand, no-more, one-more, kidWords}
+use Rattle.nodes.specs.Stands.{word, Stands, kidWords}
 use Rattle.nodes.specs.Walks.{Room, Ready, Asked, walkOver, Done, Walked}
 use Rattle.nodes.proofs.Measure.{areaIn, areasIn, same-areas}
 use Rattle.nodes.proofs.RowFields.{fits, row-says, width-says, height-says}
@@ -35,6 +35,7 @@ use Rattle.nodes.proofs.Stands.{child-stands}
 use Rattle.writer.specs.Ahead.{rowsFrom, wordAt, Eight, backWay}
 use Rattle.writer.proofs.RowWords.{same-word, other-word}
 use Rattle.writer.proofs.Way.{rows-long}
+use Rattle.nodes.proofs.Lists.{alone}
 use Rattle.nodes.proofs.Chains.{going-place, going-count}
 use Rattle.writer.proofs.Node.{done-gone, done-none, done-closed, done-other, done-leaf, done-kids}
 
@@ -139,10 +140,6 @@ module _ {l : Limits} {n : Node} {row kept : ℕ} (s : Stands l n (word row kept
 -- a place of the rows is within the table
 in-table : (bytes : List ℕ) (c : ℕ) → length bytes / 8 - length (rowsFrom bytes (placeOf c)) ≡ placeOf c → placeOf c * 8 ≤ length bytes
 in-table bytes c e = let a = rows-long (length bytes / 8 - placeOf c) bytes (placeOf c * 8) in omega arith
-
--- numbers of one node stand for one node
-alone : {l : Limits} {w : Word} {ns : List Node} (P : List Node → Type 0) → AllStand l ns (w ∷ []) → ((n : Node) → Stands l n w → P (n ∷ [])) → P ns
-alone P (one-more {n = n} s no-more) f = f n s
 
 module _ (u bytes : List ℕ) (c row kept : ℕ) (whole : length bytes % 8 ≡ 0) where
   -- what is asked is of some node, and what is walked is so for every node

@@ -1,5 +1,5 @@
 -- The way back of a whole tree, from its root.
-use Prim.Native.Nat.{ℕ, zero, suc, _+_, _-_, _/_, _%_, _≤_, _<_}
+use Prim.Native.Nat.{ℕ, _-_, _/_, _%_, _≤_, _<_}
 use mathlib.Core.Path.{_≡_, refl, ap, subst, _∙_}
 use mathlib.Core.Bool.{true}
 use mathlib.Core.List.{List, [], _∷_}
@@ -30,13 +30,8 @@ use Rattle.nodes.specs.Rooted.{Rooted}
 use Rattle.nodes.proofs.Roots.{area, sum, root-asks, root-walked}
 use Rattle.writer.specs.Ahead.{rowsFrom, backWay}
 use Rattle.writer.specs.Delivery.{deliverFlags}
+use Rattle.writer.proofs.Way.{rows-long}
 use Rattle.writer.proofs.Delivery.{Near, count-small, all-is}
-
--- so many rows of a table
-rows-count : (m : ℕ) (bytes : List ℕ) (i : ℕ) → length (rowsAt m bytes i) ≡ m
-unfolding rowsAt
-rows-count zero bytes i = refl
-rows-count (suc m) bytes i = ap suc (rows-count m bytes (i + 8))
 
 -- 15
 pub rows-refused : (l : Limits) (root : Node) (bytes buffer : List ℕ) → (length bytes % 8 ≡ 0 → ⊥) → Meets (writeRows (luma l) root bytes buffer) (Refused 15 (length bytes / 8)) buffer
@@ -45,7 +40,7 @@ rows-refused l root bytes buffer h = rw (ne-eqb _ _ h) (record { answers = refl;
 
 module _ {l : Limits} {root : Node} (r : Rooted l root) (bytes : List ℕ) where
   all-rows : length (rowsFrom bytes 0) ≡ length bytes / 8
-  all-rows = rows-count (length bytes / 8 - 0) bytes 0 ∙ omega arith
+  all-rows = rows-long (length bytes / 8 - 0) bytes 0 ∙ omega arith
 
   placed : length bytes / 8 - length (rowsFrom bytes 0) ≡ 0
   placed = let e = all-rows in omega arith
