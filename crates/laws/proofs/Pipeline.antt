@@ -30,7 +30,7 @@ use Rattle.laws.proofs.Shape.{Shape, shape-child}
 use Rattle.laws.proofs.Edge.{Grid}
 use Rattle.laws.proofs.Cells.{InOne, larger-fold, small-in-one, one-kids, one-leaf, in-one-cell}
 
-fold-64 : Fold 4 64
+pub fold-64 : Fold 4 64
 fold-64 = record { power = 4; is = refl }
 
 -- ---- a node of whole cells

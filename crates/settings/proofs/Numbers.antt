@@ -10,7 +10,7 @@ use Rattle.settings.specs.Units.{unitRefusal, countOf, located, countNum
 
 -- an answer that is picked by whether a number is 0 has that number
 module _ {A : Type 0} (number : A → ℕ) (yes no : A) (k : ℕ) where
-  picked : (b : Bool) → eqb k 0 ≡ b → number yes ≡ 0 → number no ≡ k → number (cond b yes no) ≡ k
+  pub picked : (b : Bool) → eqb k 0 ≡ b → number yes ≡ 0 → number no ≡ k → number (cond b yes no) ≡ k
   picked true e y n = y ∙ sym (eqb-true k 0 e)
   picked false e y n = n
 

@@ -4,8 +4,7 @@ use mathlib.Core.Path.{_≡_, refl}
 use mathlib.Core.Bool.{Bool, true, false, cond}
 use mathlib.Core.List.{List, [], _∷_}
 use mathlib.Core.Logic.{inl, inr}
-use lib.ListN.{length, take, drop}
-use lib.Seq.{take-append-seam}
+use lib.ListN.{length}
 use lib.Dec.{ltb}
 use borrow.Author.Tests.{le-ltb}
 use Rattle.laws.proofs.Tests.{never}
@@ -19,15 +18,15 @@ module _ (number count : ℕ) (bytes buffer : List ℕ) where
   unfolding deliver
   deliver-all h = rw (le-ltb (length buffer) (length bytes) h)
 
-  -- an accepted delivery: its count, and its bytes at the beginning of the buffer
-  pub delivered : {m : ℕ} → deliver number count bytes buffer .answer ≡ Accepted m → (count ≡ m) × (take (length bytes) (deliver number count bytes buffer .buffer) ≡ bytes)
+  -- an accepted delivery has its count, and is whole
+  pub delivered : {m : ℕ} → deliver number count bytes buffer .answer ≡ Accepted m → (count ≡ m) × (deliver number count bytes buffer ≡ accepted count bytes buffer)
   unfolding deliver
   delivered {m} e = go (ltb (length buffer) (length bytes)) e
     where
       go : (b : Bool) → cond b (refused number count buffer) (accepted count bytes buffer) .answer ≡ Accepted m
-          → (count ≡ m) × (take (length bytes) (cond b (refused number count buffer) (accepted count bytes buffer) .buffer) ≡ bytes)
+          → (count ≡ m) × (cond b (refused number count buffer) (accepted count bytes buffer) ≡ accepted count bytes buffer)
       go true e = never (cc)
-      go false e = (cc, take-append-seam bytes (drop (length bytes) buffer))
+      go false e = (cc, refl)
 
   -- its number is 0 or the one given
   pub deliver-number : OneOf (numberOf (deliver number count bytes buffer .answer)) (0 ∷ number ∷ [])

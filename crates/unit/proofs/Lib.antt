@@ -7,4 +7,5 @@ pub mod TreeReading
 pub mod TreeTurning
 pub mod ReadsExactly
 pub mod TurnsExactly
+pub mod AcceptedTree
 pub mod RoundTrips

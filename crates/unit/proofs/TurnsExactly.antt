@@ -11,6 +11,8 @@ use Rattle.settings.specs.declared.Settings.{Settings}
 use Rattle.settings.specs.Units.{unitRefusal}
 use Rattle.tree.specs.Rows.{tableBytes}
 use Rattle.tree.specs.Tree.{flagsOf, rowsOf}
+use Rattle.laws.specs.Every.{Every}
+use Rattle.laws.specs.Geometry.{SmallRow}
 use Rattle.laws.proofs.Tests.{never}
 use Rattle.laws.proofs.Depths.{rows-small}
 use Rattle.laws.proofs.Turning.{TurningIsTree, turning-is-tree}
@@ -33,7 +35,7 @@ not-16 (inl e) f = omega arith
 not-16 (inr (inl e)) f = omega arith
 
 module _ (s : Settings) (a : ℕ) (h : unitRefusal s a ≡ 0) where
-  unit-turning : TurningIsTree (kindOf s) (rootAt s a)
+  pub unit-turning : TurningIsTree (kindOf s) (rootAt s a)
   unit-turning = let r = root-of s a h in turning-is-tree (kindOf s) (r .valid) (r .good) (r .here) (r .fits)
 
   unit-rows : (bytes buffer : List ℕ) → writeFlags s a bytes buffer ≡ writeRows (kindOf s) (rootAt s a) bytes buffer
@@ -45,13 +47,16 @@ module _ (s : Settings) (a : ℕ) (h : unitRefusal s a ≡ 0) where
   unfolding writeRows
   unit-tree bytes buffer e = unit-rows bytes buffer ∙ rw (eq-eqb (length bytes % 8) 0 e)
 
-  -- the bytes of a tree's rows say these rows
-  rows-said : (t : UnitTree s a) → rowsIn (tableBytes (rowsOf t)) ≡ rowsOf t
-  rows-said t =
+  -- the bytes of a tree's rows lose nothing, so they say these rows
+  pub unit-small : (t : UnitTree s a) → Every SmallRow (rowsOf t)
+  unit-small t =
       let r = root-of s a h in
       let b = r .valid .leastCb in
       let q = r .valid .leQt in
-      small-back (rows-small (kindOf s) b (omega arith) (r .picture) (r .good .shape) (r .fits) t)
+      rows-small (kindOf s) b (omega arith) (r .picture) (r .good .shape) (r .fits) t
+
+  rows-said : (t : UnitTree s a) → rowsIn (tableBytes (rowsOf t)) ≡ rowsOf t
+  rows-said t = small-back (unit-small t)
 
   turns : (t : UnitTree s a) (buffer : List ℕ) → writeFlags s a (tableBytes (rowsOf t)) buffer ≡ deliver 17 (length (flagsOf t)) (flagsOf t) buffer
   turns t buffer =

@@ -1,0 +1,60 @@
+-- Demand 3: one claim about every list of unit calls from a freshly opened session.
+use Prim.Native.Nat.{ℕ, _+_, _≤_}
+use mathlib.Core.Path.{_≡_}
+use mathlib.Core.Logic.{_⊎_, _↔_}
+use mathlib.Core.Bool.{Bool, false, _&&_, _||_}
+use mathlib.Core.List.{List, [], _∷_}
+use lib.ListN.{length}
+use lib.Dec.{leb, ltb}
+use Rattle.settings.specs.declared.Settings.{Settings}
+use Rattle.settings.specs.declared.Square.{Square}
+use Rattle.settings.specs.Units.{unitCount, squareAt}
+use Rattle.tree.specs.Splits.{bit}
+use Rattle.tree.specs.Rows.{Row}
+use Rattle.laws.specs.Every.{Every}
+use Rattle.laws.specs.Geometry.{copies, InOneCell, OfWholeCells}
+use Rattle.unit.specs.Answers.{accepted}
+use Rattle.unit.specs.Writer.{writeFlags}
+use Rattle.picture.specs.declared.Session.{Session}
+use Rattle.picture.specs.declared.Opened.the-variants.{Fresh}
+use Rattle.picture.specs.Session.{Call, opening}
+use Rattle.picture.specs.Lists.{Taken, bytesOfUnit, acceptedIn, joined, flagLists}
+
+-- ---- samples
+
+abbrev pub inSquare : Square → ℕ → ℕ → Bool
+inSquare q px py = (leb (q .x) px && ltb px (q .x + q .side)) && (leb (q .y) py && ltb py (q .y + q .side))
+
+abbrev pub inPicture : Settings → ℕ → ℕ → Bool
+inPicture s px py = ltb px (s .width) && ltb py (s .height)
+
+-- "A unit's samples are those of the picture in its square": whether (px, py) is a sample of one of the units
+unfoldable pub inUnits : Settings → List Taken → ℕ → ℕ → Bool
+inUnits s [] px py = false
+inUnits s (u ∷ us) px py = (inSquare (squareAt s (u .address)) px py && inPicture s px py) || inUnits s us px py
+
+-- ---- the claim
+
+-- a row lies inside one 64 by 64 pipeline unit or consists of whole ones
+abbrev pub InPipeline : Row → Type 0
+InPipeline r = InOneCell 64 r ⊎ OfWholeCells 64 r
+
+-- turning a unit's rows back into any buffer that is long enough answers the number of its flags, and the buffer then begins with exactly them, the rest untouched
+abbrev pub TurnsBack : Settings → Taken → Type 0
+TurnsBack s u = (buffer : List ℕ) → length (u .flags) ≤ length buffer → writeFlags s (u .address) (bytesOfUnit u) buffer ≡ accepted (length (u .flags)) (u .flags) buffer
+
+-- what holds after a list of calls, by the units accepted in it
+pub record After (s : Settings) (t : Session) (calls : List Call) : Type 0 where
+  -- every sample of the units accepted lies in exactly one row of the joined table, and no row reaches outside these samples
+  pub covered : (px py : ℕ) → copies px py (joined (acceptedIn t calls)) ≡ bit (inUnits s (acceptedIn t calls) px py) 1
+  -- where the list completes the picture, they are all of its samples
+  pub complete : length (acceptedIn t calls) ≡ unitCount s → (px py : ℕ) → inUnits s (acceptedIn t calls) px py ≡ inPicture s px py
+  pub pipeline : Every InPipeline (joined (acceptedIn t calls))
+  pub back : Every (TurnsBack s) (acceptedIn t calls)
+  -- two lists have equal joined tables exactly when they had equally many units accepted, with equal flags, unit for unit
+  pub legible : (others : List Call)
+      → (joined (acceptedIn t calls) ≡ joined (acceptedIn t others)) ↔ (flagLists (acceptedIn t calls) ≡ flagLists (acceptedIn t others))
+
+-- "A fresh session is what an accepted opening yields"
+abbrev pub Demand3 : Type 0
+Demand3 = (s : Settings) (t : Session) → opening s ≡ Fresh t → (calls : List Call) → After s t calls

@@ -1,0 +1,3 @@
+pub mod Session
+pub mod Lists
+pub mod Demand
