@@ -1,5 +1,7 @@
 // Runs document 01's cases on the proved functions, and prints the tables that they give.
 // The expected output, `stdout`, is written from the paper.
+mod pictures;
+
 use libc::STDOUT_FILENO;
 use settings::Count;
 use settings::Located;
@@ -51,8 +53,11 @@ fn say_checks() {
     say_refusal(b"A with MinQt 16, M 0, width 80: ", quads);
 }
 
-fn say_units() {
-    let camera = Settings {
+// A camera's settings.
+fn camera() -> Settings
+    ensures { λ r. ⌜ r ≡ Cases.settings 128 4 8 3 128 64 1920 1080 ⌝ }
+{
+    Settings {
         ctu: 128,
         mincb: 4,
         minqt: 8,
@@ -61,8 +66,11 @@ fn say_units() {
         maxtt: 64,
         width: 1920,
         height: 1080,
-    };
-    match settings::unit_count(camera) {
+    }
+}
+
+fn say_units() {
+    match settings::unit_count(camera()) {
         Count::Units(n) => say(b"units of a camera's picture: ", n as u64),
         Count::Refused(k) => say(b"refused: ", k as u64),
     }
@@ -464,4 +472,5 @@ fn main() {
     say_ways_back();
     say_refused_back();
     say_long();
+    pictures::say_pictures();
 }

@@ -1,0 +1,138 @@
+// Whole pictures, unit by unit, with refused calls in between.
+use crate::camera;
+use crate::end_line;
+use crate::say;
+use crate::say_rows;
+use crate::setting_a;
+use libc::STDOUT_FILENO;
+use picture::Called;
+use picture::Opened;
+use picture::Session;
+use settings::Settings;
+use unit::Answer;
+ghost use Prim.Native.Nat.{_<_};
+
+// An answer: a refusal's number and place, or the number of rows.
+fn say_called(text: &[u8], c: Called) -> Session {
+    let answer = c.answer;
+    match answer {
+        Answer::Refused(number, place) => {
+            say(text, number as u64);
+            say(b" at ", place as u64);
+        }
+        Answer::Accepted(count) => {
+            say(text, count as u64);
+            io::write_all(STDOUT_FILENO, b" rows");
+        }
+    }
+    let session = c.session;
+    session
+}
+
+// A unit's line: refused for the address after it, without its flags and without room for its rows, then accepted.
+// Each call is on the session that the one before it yielded.
+fn say_unit(t: Session, address: usize, flags: &[u8], rows: &mut [u8; 64]) -> Session
+    requires { ⌜ address < 1000 ⌝ }
+{
+    let mut few = [0u8; 7];
+    say(b"  unit ", address as u64);
+    let skipped = say_called(b": ", t.unit(address + 1, flags, rows));
+    let early = say_called(b", ", skipped.unit(address, b"", rows));
+    let short = say_called(b", ", early.unit(address, flags, &mut few));
+    let next = say_called(b", ", short.unit(address, flags, rows));
+    say(b"; due ", next.due as u64);
+    end_line();
+    next
+}
+
+// A unit of a camera's picture. The last 15 reach past its bottom edge.
+fn say_camera_unit(t: Session, address: usize) -> Session
+    requires { ⌜ address < 1000 ⌝ }
+{
+    let mut rows = [0u8; 64];
+    if 120 <= address {
+        return say_unit(t, address, b"\x00\x00\x00\x00\x00\x00\x00\x00", &mut rows);
+    }
+    match address % 4 {
+        0 => say_unit(t, address, b"\x00", &mut rows),
+        1 => say_unit(t, address, b"\x01\x00\x00\x00\x01\x00\x00", &mut rows),
+        2 => say_unit(t, address, b"\x01\x01\x00\x00\x00\x00", &mut rows),
+        _ => say_unit(
+            t,
+            address,
+            b"\x01\x01\x01\x00\x01\x00\x00\x00\x00\x00\x00\x00",
+            &mut rows,
+        ),
+    }
+}
+
+// A complete picture, and sessions whose fields were forged.
+fn say_end(t: Session, address: usize) {
+    let mut rows = [0u8; 64];
+    let end = say_called(b"  complete: ", t.unit(address, b"\x00", &mut rows));
+    end_line();
+    let mut past = end;
+    past.due = 1000;
+    say_called(b"  1,000 due: ", past.unit(1000, b"\x00", &mut rows));
+    end_line();
+    let mut cut = end;
+    cut.settings = setting_a(68);
+    cut.due = 0;
+    say_called(b"  width 68: ", cut.unit(0, b"\x00", &mut rows));
+    end_line();
+}
+
+fn say_camera(fresh: Session) {
+    let mut t = fresh;
+    for address in 0..135 {
+        t = say_camera_unit(t, address);
+    }
+    say_end(t, 135);
+}
+
+// A unit of the small picture, and its rows.
+fn say_small_unit(t: Session, address: usize, flags: &[u8], count: usize) -> Session
+    requires { ⌜ address < 1000 ⌝ }
+{
+    let mut rows = [0u8; 64];
+    let next = say_unit(t, address, flags, &mut rows);
+    say_rows(&rows, count);
+    next
+}
+
+// A picture of 72 by 72: three of its four units reach past an edge, by 56 samples.
+fn say_small(fresh: Session) {
+    let first = say_small_unit(fresh, 0, b"\x01\x01\x00\x01\x00\x00\x00\x00\x00\x00\x00", 6);
+    let second = say_small_unit(first, 1, b"\x00\x00\x01\x00\x00\x01\x00\x00", 4);
+    let third = say_small_unit(second, 2, b"\x00\x00\x01\x00\x00\x01\x00\x00", 4);
+    let last = say_small_unit(third, 3, b"\x00", 1);
+    say_end(last, 4);
+}
+
+// Opens a session, and goes on with a picture where it is accepted.
+fn say_opened(text: &[u8], s: Settings) -> Session {
+    io::write_all(STDOUT_FILENO, text);
+    match Session::open(s) {
+        Opened::Refused(number) => {
+            say(b"refused ", number as u64);
+            end_line();
+            Session {
+                settings: s,
+                due: 0,
+            }
+        }
+        Opened::Fresh(t) => {
+            say(b"opened, due ", t.due as u64);
+            end_line();
+            t
+        }
+    }
+}
+
+pub(crate) fn say_pictures() {
+    say_opened(b"a picture of width 68: ", setting_a(68));
+    say_camera(say_opened(b"a camera's picture: ", camera()));
+    let mut small = setting_a(72);
+    small.height = 72;
+    say_small(say_opened(b"a picture of 72 by 72: ", small));
+}
