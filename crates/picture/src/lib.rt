@@ -4,7 +4,7 @@ use settings::Settings;
 use unit::Answer;
 ghost use mathlib.Core.Path.{_≡_};
 ghost use Prim.Native.Nat.{_<_};
-ghost use Rattle.picture.specs.Session.{opening, call, returned, Yields};
+ghost use Rattle.picture.specs.Session.{opening, openedNumber, call, returned, Yields};
 ghost use Rattle.unit.specs.declared.Answer.the-variants.{Refused as Answer·Refused};
 
 // Document 01's session: the settings and the address due. Its fields are open to its holder, so a call checks them again.
@@ -17,6 +17,18 @@ pub struct Session {
 pub enum Opened {
     Fresh(Session),
     Refused(u32),
+}
+
+impl Opened {
+    // Document 01's number of an opening; 0 where it is accepted.
+    pub fn number(self) -> u32
+        ensures { λ r. ⌜ r ≡ openedNumber self ⌝ }
+    {
+        match self {
+            Opened::Fresh(_) => 0,
+            Opened::Refused(number) => number,
+        }
+    }
 }
 
 // What a unit call returns: the session that it yields, and its answer.

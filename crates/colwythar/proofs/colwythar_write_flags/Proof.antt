@@ -1,0 +1,31 @@
+-- `colwythar_write_flags` meets its contract.
+use denote.Ref.{now}
+use borrow.Author.Needs.{needs}
+use Rattle.unit.specs.Writer.{writeFlags}
+use Rattle.colwythar.proofs.Passing.{passed-on}
+use Rattle.colwythar.proofs.colwythar_write_flags.Statement.{statement}
+use Rattle.colwythar.proofs.colwythar_write_flags.Tie as tie
+
+settings-in-requires : tie.Need-settings-in-requires
+settings-in-requires c κs = search needs
+
+write-flags-requires : tie.Need-write-flags-requires
+write-flags-requires c κs = search needs
+
+put-answer-requires : tie.Need-put-answer-requires
+put-answer-requires c κs = search needs
+
+same-length : tie.Need-same-length
+same-length c = search needs
+
+returns : tie.Need-returns
+returns c =
+    let turned = c .before .before .before .before in
+    let set = turned .before .before in
+    let a = set .before .before .before .args in
+    passed-on (now (a .settings)) (set .settings-in .ensures) (λ s. writeFlags s (a .address) (now (a .rows)) (now (a .flags))) (turned .write-flags .ensures) (c .put-answer .ensures)
+
+pub colwythar-write-flags-spec : {M : Type 1} → statement M
+colwythar-write-flags-spec =
+    tie.close
+    (tie.spec settings-in-requires write-flags-requires put-answer-requires same-length returns)

@@ -1,0 +1,94 @@
+// The C interface: the functions of the static library, declared in include/colwythar.h. A slice is a pointer and then
+// a length; settings, answers and the due address are behind pointers.
+use picture::Session;
+use settings::Settings;
+use unit::Answer;
+ghost use mathlib.Core.Path.{_≡_};
+ghost use Rattle.unit.specs.Reader.{readUnit};
+ghost use Rattle.unit.specs.Writer.{writeFlags};
+ghost use Rattle.picture.specs.Session.{opening, call};
+ghost use Rattle.colwythar.specs.Words.{settingsIn, answerWords, openedWords, sessionIn, Leaves, Moves};
+
+fn settings_in(words: &[u32; 8]) -> Settings
+    ensures { λ r. ⌜ r ≡ settingsIn (now (words .entry)) ⌝ }
+{
+    Settings {
+        ctu: words[0],
+        mincb: words[1],
+        minqt: words[2],
+        maxmtt: words[3],
+        maxbt: words[4],
+        maxtt: words[5],
+        width: words[6],
+        height: words[7],
+    }
+}
+
+fn put_answer(a: Answer, answer: &mut [u64; 2])
+    ensures { λ _. ⌜ now (answer .exit) ≡ answerWords a ⌝ }
+{
+    *answer = [a.number() as u64, a.value() as u64];
+}
+
+// Reads the flags of a unit into the row buffer: refusals 1 to 14, or the number of rows.
+#[no_mangle]
+pub extern "C" fn colwythar_read_unit(
+    settings: &[u32; 8],
+    address: u64,
+    flags: &[u8],
+    rows: &mut [u8],
+    answer: &mut [u64; 2],
+)
+    ensures { λ _. ⌜ Leaves (readUnit (settingsIn (now (settings .entry))) address (now (flags .entry)) (now (rows .entry))) (now (answer .exit)) (now (rows .exit)) ⌝ }
+{
+    let a = reader::read_unit(settings_in(settings), address as usize, flags, rows);
+    put_answer(a, answer);
+}
+
+// Turns the rows of a unit back into the flag buffer: refusals 1 to 10 and 15 to 17, or the number of flags.
+#[no_mangle]
+pub extern "C" fn colwythar_write_flags(
+    settings: &[u32; 8],
+    address: u64,
+    rows: &[u8],
+    flags: &mut [u8],
+    answer: &mut [u64; 2],
+)
+    ensures { λ _. ⌜ Leaves (writeFlags (settingsIn (now (settings .entry))) address (now (rows .entry)) (now (flags .entry))) (now (answer .exit)) (now (flags .exit)) ⌝ }
+{
+    let a = writer::write_flags(settings_in(settings), address as usize, rows, flags);
+    put_answer(a, answer);
+}
+
+// Whether a picture with these settings can be opened: refusals 1 to 9, or 0. A fresh session is the settings and due 0.
+#[no_mangle]
+pub extern "C" fn colwythar_open(settings: &[u32; 8], answer: &mut [u64; 2])
+    ensures { λ _. ⌜ now (answer .exit) ≡ openedWords (opening (settingsIn (now (settings .entry)))) ⌝ }
+{
+    let opened = Session::open(settings_in(settings));
+    *answer = [opened.number() as u64, 0];
+}
+
+// The unit call on the session of these settings and the due address: refusals 22, 20, 21 and 11 to 14, or the number of
+// rows. The due address is moved on by an accepted call.
+#[no_mangle]
+pub extern "C" fn colwythar_unit(
+    settings: &[u32; 8],
+    due: &mut u64,
+    address: u64,
+    flags: &[u8],
+    rows: &mut [u8],
+    answer: &mut [u64; 2],
+)
+    ensures { λ _. ⌜ Moves (sessionIn (now (settings .entry)) (now (due .entry))) (call address (now (flags .entry)) (now (rows .entry))) (now (due .exit)) (now (answer .exit)) (now (rows .exit)) ⌝ }
+{
+    let session = Session {
+        settings: settings_in(settings),
+        due: *due as usize,
+    };
+    let called = session.unit(address as usize, flags, rows);
+    let next = called.session;
+    *due = next.due as u64;
+    let a = called.answer;
+    put_answer(a, answer);
+}
