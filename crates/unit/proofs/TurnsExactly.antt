@@ -1,10 +1,11 @@
 -- The rows of a unit that is there are turned back exactly as its coding trees say.
-use Prim.Native.Nat.{ℕ, _%_}
-use mathlib.Core.Path.{_≡_, sym, ap, _∙_}
+use Prim.Native.Nat.{ℕ, _/_, _%_}
+use mathlib.Core.Path.{_≡_, refl, sym, ap, _∙_}
 use mathlib.Core.List.{List, [], _∷_}
 use mathlib.Core.Logic.{_⊎_, inl, inr, _↔_}
 use native.Mathlib.Omega.{arith}
-use borrow.Author.Tests.{eq-eqb, eqb-true}
+use native.Mathlib.Decide.{ℕ-discrete}
+use borrow.Author.Tests.{eq-eqb, eqb-true, ne-eqb}
 use lib.ListN.{length}
 use lib.Dec.{eqb}
 use Rattle.settings.specs.declared.Settings.{Settings}
@@ -34,6 +35,10 @@ not-16 : {n : ℕ} → OneOf n (0 ∷ 17 ∷ []) → ¬ (n ≡ 16)
 not-16 (inl e) f = omega arith
 not-16 (inr (inl e)) f = omega arith
 
+of-delivery : {n : ℕ} → OneOf n (0 ∷ 17 ∷ []) → OneOf n (0 ∷ 15 ∷ 16 ∷ 17 ∷ [])
+of-delivery (inl e) = inl e
+of-delivery (inr o) = inr (inr (inr o))
+
 module _ (s : Settings) (a : ℕ) (h : unitRefusal s a ≡ 0) where
   pub unit-turning : TurningIsTree (kindOf s) (rootAt s a)
   unit-turning = let r = root-of s a h in turning-is-tree (kindOf s) (r .valid) (r .good) (r .here) (r .fits)
@@ -41,6 +46,11 @@ module _ (s : Settings) (a : ℕ) (h : unitRefusal s a ≡ 0) where
   unit-rows : (bytes buffer : List ℕ) → writeFlags s a bytes buffer ≡ writeRows (kindOf s) (rootAt s a) bytes buffer
   unfolding writeFlags
   unit-rows bytes buffer = rw (eq-eqb (unitRefusal s a) 0 h)
+
+  -- bytes that are no whole rows
+  unit-cut : (bytes buffer : List ℕ) → (length bytes % 8 ≡ 0 → ⊥) → writeFlags s a bytes buffer ≡ refused 15 (length bytes / 8) buffer
+  unfolding writeRows
+  unit-cut bytes buffer e = unit-rows bytes buffer ∙ rw (ne-eqb (length bytes % 8) 0 e)
 
   -- whole rows
   unit-tree : (bytes buffer : List ℕ) → length bytes % 8 ≡ 0 → writeFlags s a bytes buffer ≡ writeTree (kindOf s) (rootAt s a) (rowsIn bytes) buffer
@@ -93,10 +103,24 @@ module _ (s : Settings) (a : ℕ) (h : unitRefusal s a ≡ 0) where
           go none (inl t) = absurd (none (t .0) (t .1))
           go none (inr f) = rw (f buffer)
 
+  -- ---- the numbers
+
+  numbers : (bytes buffer : List ℕ) → OneOf (numberOf (writeFlags s a bytes buffer .answer)) (0 ∷ 15 ∷ 16 ∷ 17 ∷ [])
+  numbers bytes buffer = go (ℕ-discrete (length bytes % 8) 0)
+    where
+      whole-rows : length bytes % 8 ≡ 0 → RowsTurned (kindOf s) (rootAt s a) (rowsIn bytes) → OneOf (numberOf (writeFlags s a bytes buffer .answer)) (0 ∷ 15 ∷ 16 ∷ 17 ∷ [])
+      whole-rows e (inl t) = rw (unit-tree bytes buffer e, ← (t .1), tree-turned unit-turning (t .0) buffer) (of-delivery (deliver-number 17 _ _ buffer))
+      whole-rows e (inr f) = rw (unit-tree bytes buffer e, f buffer) (inr (inr (inl refl)))
+
+      go : Dec (length bytes % 8 ≡ 0) → OneOf (numberOf (writeFlags s a bytes buffer .answer)) (0 ∷ 15 ∷ 16 ∷ 17 ∷ [])
+      go (yes e) = whole-rows e (turned-or-refused unit-turning (rowsIn bytes))
+      go (no e) = rw (unit-cut bytes buffer e) (inr (inl refl))
+
   pub turns-exactly : TurnsExactly s a
   turns-exactly = record {
     turns = turns;
     only = only;
     refused = λ bytes small e buffer. no-tree bytes small buffer e;
     unique = λ t u e. unit-turning .rows-unique t u (sym (rows-said t) ∙ ap rowsIn e ∙ rows-said u);
+    numbers = numbers;
   }

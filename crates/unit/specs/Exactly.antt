@@ -36,7 +36,7 @@ pub record ReadsExactly (s : Settings) (a : ℕ) : Type 0 where
   pub refused : (flags buffer : List ℕ) → OneOf (numberOf (readUnit s a flags buffer .answer)) (0 ∷ 11 ∷ 12 ∷ 13 ∷ 14 ∷ [])
 
 -- Its rows are turned back exactly so: the bytes of a tree's rows give its flags, no other bytes are accepted, whole rows are refused with 16 exactly
--- where no tree has them, and rows belong to one tree at most.
+-- where no tree has them, rows belong to one tree at most, and what is not accepted is refused with 15 to 17.
 pub record TurnsExactly (s : Settings) (a : ℕ) : Type 0 where
   pub turns : (t : UnitTree s a) (buffer : List ℕ) → writeFlags s a (tableBytes (rowsOf t)) buffer ≡ deliver 17 (length (flagsOf t)) (flagsOf t) buffer
   pub only : (bytes : List ℕ) → Bytes bytes → (buffer : List ℕ) (m : ℕ) → writeFlags s a bytes buffer .answer ≡ Accepted m
@@ -44,3 +44,4 @@ pub record TurnsExactly (s : Settings) (a : ℕ) : Type 0 where
   pub refused : (bytes : List ℕ) → Bytes bytes → length bytes % 8 ≡ 0 → (buffer : List ℕ)
       → (numberOf (writeFlags s a bytes buffer .answer) ≡ 16) ↔ ((t : UnitTree s a) → ¬ (tableBytes (rowsOf t) ≡ bytes))
   pub unique : (t u : UnitTree s a) → tableBytes (rowsOf t) ≡ tableBytes (rowsOf u) → t ≡ u
+  pub numbers : (bytes buffer : List ℕ) → OneOf (numberOf (writeFlags s a bytes buffer .answer)) (0 ∷ 15 ∷ 16 ∷ 17 ∷ [])
