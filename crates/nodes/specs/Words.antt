@@ -43,12 +43,16 @@ skips u row kept = mayReachPast kept && not (cornerInside (limitsIn u) (nodeIn r
 abbrev pub reachesOut : List ℕ → ℕ → ℕ → Bool
 reachesOut u row kept = mayReachPast kept && isOut (limitsIn u) (nodeIn row kept)
 
--- its open splits: by the rules where it may reach past the picture, else by the masks of its sides
+-- its open splits by the rules, and, inside the picture, by the masks of its sides
+abbrev pub edgeIn : List ℕ → ℕ → ℕ → ℕ
+edgeIn u row kept = bitAnd kept (openSplits (rightsOf (luma (limitsIn u)) (nodeIn row kept)))
+
+abbrev pub innerIn : List ℕ → ℕ → ℕ → ℕ
+innerIn u row kept = bitAnd (bitAnd kept (getD u (6 + row / 4294967296 % 8) 0)) (getD u (12 + row / 1099511627776 % 8) 0)
+
+-- its open splits: by the rules where it may reach past the picture, else by the masks
 unfoldable pub openIn : List ℕ → ℕ → ℕ → ℕ
-openIn u row kept =
-    cond (mayReachPast kept)
-    (bitAnd kept (openSplits (rightsOf (luma (limitsIn u)) (nodeIn row kept))))
-    (bitAnd (bitAnd kept (getD u (6 + row / 4294967296 % 8) 0)) (getD u (12 + row / 1099511627776 % 8) 0))
+openIn u row kept = cond (mayReachPast kept) (edgeIn u row kept) (innerIn u row kept)
 
 -- ---- its children
 

@@ -7,10 +7,10 @@ use crate::masks::Table;
 ghost use mathlib.Core.Path.{_≡_};
 ghost use Rattle.tree.specs.Splits.{bottomOut};
 ghost use Rattle.nodes.specs.Tables.{limitsIn};
-ghost use Rattle.nodes.specs.Words.{nodeIn, mayReachPast, skips, reachesOut, openIn};
+ghost use Rattle.nodes.specs.Words.{nodeIn, mayReachPast, skips, reachesOut, edgeIn, innerIn};
 
 // Whether a node may reach past the picture: a root, and a child of a node that is out.
-fn may_reach_past(kept: u32) -> bool
+pub fn may_reach_past(kept: u32) -> bool
     ensures { λ r. ⌜ r ≡ mayReachPast kept ⌝ }
 {
     kept & 32 != 0
@@ -45,13 +45,16 @@ pub fn bottom_out(u: &Table, row: u64) -> bool
     splits::bottom_out(limits_of(u), node_of(row, 0))
 }
 
-// The open splits of a node: by the rules where it may reach past the picture, else by the masks of its sides.
-pub fn open_splits(u: &Table, row: u64, kept: u32) -> u32
-    ensures { λ r. ⌜ r ≡ openIn (now (u .entry)) row kept ⌝ }
+// The open splits of a node by the rules, which hold also where it may reach past the picture.
+pub fn edge_splits(u: &Table, row: u64, kept: u32) -> u32
+    ensures { λ r. ⌜ r ≡ edgeIn (now (u .entry)) row kept ⌝ }
 {
-    if may_reach_past(kept) {
-        kept & splits::open_splits(limits_of(u), node_of(row, kept))
-    } else {
-        kept & u[6 + width_exponent(row) as usize] & u[12 + height_exponent(row) as usize]
-    }
+    kept & splits::open_splits(limits_of(u), node_of(row, kept))
+}
+
+// The open splits of a node inside the picture, by the masks of its sides.
+pub fn inner_splits(u: &Table, row: u64, kept: u32) -> u32
+    ensures { λ r. ⌜ r ≡ innerIn (now (u .entry)) row kept ⌝ }
+{
+    kept & u[6 + width_exponent(row) as usize] & u[12 + height_exponent(row) as usize]
 }

@@ -12,6 +12,7 @@ ghost use mathlib.Core.List.{[], _∷_};
 ghost use Prim.Native.Nat.{min};
 ghost use Rattle.nodes.specs.Stands.{word, fourWords, twoWords, threeWords, kidWords};
 ghost use Rattle.nodes.specs.Walks.{Asked, Walked};
+ghost use Rattle.nodes.specs.Words.{openIn};
 ghost use Rattle.reader.specs.Walking.{readWay};
 
 // The smaller of two places.
@@ -19,6 +20,18 @@ fn earlier(a: usize, b: usize) -> usize
     ensures { λ r. ⌜ r ≡ min a b ⌝ }
 {
     if a < b { a } else { b }
+}
+
+// The open splits of a node. Each walk has this choice for itself: then the masks are part of its code, and the rules of
+// the picture's edge, which are long, stay a call.
+fn open_splits(u: &Table, row: u64, kept: u32) -> u32
+    ensures { λ r. ⌜ r ≡ openIn (now (u .entry)) row kept ⌝ }
+{
+    if nodes::may_reach_past(kept) {
+        nodes::edge_splits(u, row, kept)
+    } else {
+        nodes::inner_splits(u, row, kept)
+    }
 }
 
 // Reads a node. A node whose corner is outside the picture is skipped.
@@ -38,12 +51,7 @@ pub(crate) fn node_walk(
     }
     let out = nodes::out(u, row, kept);
     let end = flags.len();
-    match flags::decide(
-        flags,
-        nodes::place(c),
-        out,
-        nodes::open_splits(u, row, kept),
-    ) {
+    match flags::decide(flags, nodes::place(c), out, open_splits(u, row, kept)) {
         Choice::Refused(number, at) => nodes::stopping(number, earlier(at, end)),
         Choice::Chosen(decision, next) => match decision {
             Decision::Leaf => {

@@ -1,23 +1,44 @@
 -- The ends of a way back, over plain values: each way in which the code answers is what the delivery says.
 use Prim.Native.Nat.{ℕ, _/_, _≤_, _<_}
 use mathlib.Core.Path.{_≡_, refl, sym, ap, _∙_}
-use mathlib.Core.Bool.{Bool, true, false, cond}
-use mathlib.Core.List.{List}
+use mathlib.Core.Bool.{Bool, true, false, not, cond}
+use mathlib.Core.List.{List, [], _∷_}
 use native.Mathlib.Omega.{arith}
 use lib.Dec.{ltb}
-use lib.ListN.{length}
-use borrow.Author.Tests.{lt-ltb, le-ltb}
+use lib.ListN.{length, set}
+use lib.Seq.{sets-eq}
+use borrow.Author.Tests.{lt-ltb, le-ltb, not-true, not-false}
 use denote.Enum
+use Rattle.tree.specs.Splits.{rightsIn}
+use Rattle.tree.specs.Flags.{someOpen, flagsFor}
 use Rattle.blocks.specs.Copies.{copied}
 use Rattle.blocks.proofs.Pastes.{copied-all}
 use Rattle.unit.specs.declared.Answer.the-variants.{Accepted, Refused}
-use Rattle.unit.specs.Answers.{Meets}
+use Rattle.unit.specs.Answers.{Meets, deliver}
 use Rattle.nodes.specs.declared.state.Child.{Child}
 use Rattle.nodes.specs.declared.state.Child.the-variants as child
 use Rattle.nodes.proofs.state.Child as C
 use Rattle.nodes.specs.State.{placeOf, countOf, numberOf, refusedAt}
 use Rattle.nodes.proofs.Apart.{was-walked}
-use Rattle.writer.specs.Delivery.{deliverFlags}
+use Rattle.writer.specs.Delivery.{deliverLeaf, deliverFlags}
+
+-- ---- a root that is a leaf
+
+module _ (splits : ℕ) {some : Bool} (e : some ≡ someOpen (rightsIn false splits)) (b : List ℕ) where
+  pub leaf-none : not some ≡ true → Meets (deliverLeaf splits b) (Accepted 0) b
+  unfolding flagsFor deliver
+  leaf-none n = rw (← e, not-true some n, le-ltb (length b) 0 (omega arith)) (record { answers = refl; leaves = refl })
+
+  module _ (y : not some ≡ false) where
+    pub leaf-short : length b ≡ 0 → Meets (deliverLeaf splits b) (Refused 17 1) b
+    unfolding flagsFor deliver
+    leaf-short h = rw (← e, not-false some y, h) (record { answers = refl; leaves = refl })
+
+    pub leaf-done : (length b ≡ 0 → ⊥) → Meets (deliverLeaf splits b) (Accepted 1) (set b 0 0)
+    unfolding flagsFor deliver
+    leaf-done h = rw (← e, not-false some y, le-ltb (length b) 1 (omega arith)) (record { answers = refl; leaves = sets-eq (0 ∷ []) b 0 (omega arith) })
+
+-- ---- the number that a walk answers
 
 -- a number that is not of a walk that goes on
 refused-only : (t : Bool) (answer : ℕ) → denote.Enum.Declared.tagOf C.the-type (cond t (child.Walked answer) (child.Refused answer)) ≡ 1 → t ≡ false

@@ -10,7 +10,7 @@ use mir.Val.{boolByte}
 use Rattle.tree.specs.declared.Direction.{Direction}
 use Rattle.tree.specs.declared.Decision.the-variants.{Leaf, Quad}
 use Rattle.tree.specs.Splits.{pick, bit, has, rightsIn}
-use Rattle.tree.specs.Flags.{binaryThere, flagByte, cutFlags, flagsFor}
+use Rattle.tree.specs.Flags.{someOpen, binaryThere, flagByte, cutFlags, flagsFor}
 use Rattle.nodes.proofs.Stores.{sets-append}
 
 pub byte-bit : (v : Bool) → boolByte v ≡ bit v 1
@@ -29,11 +29,12 @@ put-two b n xs ys p q = let e = p .0 in let f = q .0 in (rw length-append (omega
 abbrev One : List ℕ → ℕ → Bool → Bool → List ℕ → ℕ → Type 0
 One b n there value after m = (m ≡ n + length (flagByte there value)) × (after ≡ sets b n (flagByte there value)) × (m ≤ n + 1)
 
-module _ (out : Bool) (splits : ℕ) (b : List ℕ) (n : ℕ) {flat steep : Bool} (f : flat ≡ has splits 2 || has splits 8) (s : steep ≡ has splits 4 || has splits 16) where
-  pub put-leaf : {b₁ : List ℕ} {n₁ : ℕ} → One b n (not out && (has splits 1 || (flat || steep))) false b₁ n₁ → Put b n (flagsFor (rightsIn out splits) Leaf) b₁ n₁
-  unfolding flagsFor
-  put-leaf p = rw (← f, ← s) (p .0, p .1)
+pub put-leaf : (out : Bool) (splits : ℕ) (b : List ℕ) (n : ℕ) {some : Bool} → some ≡ someOpen (rightsIn false splits) → {b₁ : List ℕ} {n₁ : ℕ}
+    → One b n (not out && some) false b₁ n₁ → Put b n (flagsFor (rightsIn out splits) Leaf) b₁ n₁
+unfolding flagsFor
+put-leaf out splits b n e p = rw (← e) (p .0, p .1)
 
+module _ (out : Bool) (splits : ℕ) (b : List ℕ) (n : ℕ) {flat steep : Bool} (f : flat ≡ has splits 2 || has splits 8) (s : steep ≡ has splits 4 || has splits 16) where
   pub put-quad : {b₁ b₂ : List ℕ} {n₁ n₂ : ℕ} → One b n (not out && (has splits 1 || (flat || steep))) true b₁ n₁ → One b₁ n₁ (has splits 1 && (flat || steep)) true b₂ n₂
       → Put b n (flagsFor (rightsIn out splits) Quad) b₂ n₂
   unfolding flagsFor

@@ -3,9 +3,11 @@ use Prim.Native.Nat.{ℕ, _+_, _*_, _/_, _%_, _<_}
 use mathlib.Core.Path.{_≡_, refl, sym, ap, _∙_}
 use mathlib.Core.Bool.{Bool, true, false}
 use mathlib.Core.List.{List}
-use borrow.Author.Tests.{eq-eqb}
+use borrow.Author.Tests.{eq-eqb, eqb-true}
 use native.Mathlib.Omega.{arith}
+use lib.Dec.{eqb}
 use lib.ListN.{getD}
+use Rattle.sides.proofs.Bools.{clash}
 use Rattle.tree.specs.declared.Node.{Node}
 use Rattle.tree.specs.Rows.{Row, rowOf, rowAt, rowBytes}
 use Rattle.tree.specs.Back.{sameRow}
@@ -123,3 +125,11 @@ module _ {bytes : List ℕ} {i : ℕ} (b : Eight bytes i) where
         go : (s : Bool) → sameRow (rowAt bytes i) (rowOf n) ≡ s → s ≡ false
         go true e = absurd (differs (sym at-word ∙ ap rowWord (same-row (rowAt bytes i) (rowOf n) e)))
         go false e = refl
+
+    -- and as one test
+    pub word-tests : eqb (wordAt bytes i) (rowWord (rowOf n)) ≡ sameRow (rowAt bytes i) (rowOf n)
+    word-tests = go (eqb (wordAt bytes i) (rowWord (rowOf n))) refl
+      where
+        go : (t : Bool) → eqb (wordAt bytes i) (rowWord (rowOf n)) ≡ t → t ≡ sameRow (rowAt bytes i) (rowOf n)
+        go true e = sym (same-word (eqb-true _ _ e))
+        go false e = sym (other-word (λ k. clash (eq-eqb _ _ k) e))

@@ -34,7 +34,7 @@ fn write_all(l: Limits, root: Node, rows: &[u8], flags: &mut [u8]) -> Answer
     deliver::all_flags(answer, &scratch, rows, flags)
 }
 
-// The way back of a table of whole rows, or refusal 15.
+// The way back of a table of whole rows, or refusal 15; a root that is a leaf needs no walk.
 fn write_rows(l: Limits, root: Node, rows: &[u8], flags: &mut [u8]) -> Answer
     requires { ⌜ Rooted l root ⌝ }
     ensures { λ r. ⌜ Meets (writeRows (luma l) root (now (rows .entry)) (now (flags .entry))) r (now (flags .exit)) ⌝ }
@@ -42,7 +42,11 @@ fn write_rows(l: Limits, root: Node, rows: &[u8], flags: &mut [u8]) -> Answer
     if rows.len() % 8 != 0 {
         return Answer::Refused(15, rows.len() / 8);
     }
-    write_all(l, root, rows, flags)
+    if deliver::is_leaf(l, root, rows) {
+        deliver::leaf_flags(splits::open_splits(l, root), flags)
+    } else {
+        write_all(l, root, rows, flags)
+    }
 }
 
 // Turns the rows of the unit at an address back: answers the number of its flags, which are then the first bytes of the

@@ -14,7 +14,7 @@ ghost use lib.ListN.{length};
 ghost use lib.Seq.{sets};
 ghost use Rattle.tree.specs.Splits as Splits;
 ghost use Rattle.tree.specs.Splits.{rightsIn, allows, pick};
-ghost use Rattle.tree.specs.Flags.{binaryThere, flagByte, cutFlags, flagsFor};
+ghost use Rattle.tree.specs.Flags.{someOpen, binaryThere, flagByte, cutFlags, flagsFor};
 
 // Whether the open splits of a node, inside the picture or out of it, allow a decision.
 pub(crate) fn allowed(out: bool, splits: u32, d: Decision) -> bool
@@ -58,6 +58,13 @@ fn vertical(splits: u32) -> bool
     ensures { λ r. ⌜ r ≡ (Splits.has splits 4 || Splits.has splits 16) ⌝ }
 {
     (splits & BV != 0) | (splits & TV != 0)
+}
+
+// Whether some split is open; where a node lies plays no part.
+pub(crate) fn some_open(splits: u32) -> bool
+    ensures { λ r. ⌜ r ≡ someOpen (rightsIn false splits) ⌝ }
+{
+    (splits & QT != 0) | (horizontal(splits) | vertical(splits))
 }
 
 // Whether both cuts of a direction are open; where a node lies plays no part.
@@ -107,10 +114,7 @@ pub(crate) fn put_flags(flags: &mut Scratch, n: usize, out: bool, splits: u32, d
     ensures { λ r. ⌜ (r ≡ n + length (flagsFor (rightsIn out splits) d)) × (now (flags .exit) ≡ sets (now (flags .entry)) n (flagsFor (rightsIn out splits) d)) ⌝ }
 {
     match d {
-        Decision::Leaf => {
-            let some = (splits & QT != 0) | (horizontal(splits) | vertical(splits));
-            put(flags, n, !out & some, false)
-        }
+        Decision::Leaf => put(flags, n, !out & some_open(splits), false),
         Decision::Quad => {
             let quad = splits & QT != 0;
             let cut = horizontal(splits) | vertical(splits);

@@ -16,7 +16,20 @@ ghost use Prim.Native.Nat.{_%_};
 ghost use lib.ListN.{length};
 ghost use Rattle.nodes.specs.Stands.{word, fourWords, twoWords, threeWords, kidWords};
 ghost use Rattle.nodes.specs.Walks.{Asked, Walked};
+ghost use Rattle.nodes.specs.Words.{openIn};
 ghost use Rattle.writer.specs.Ahead.{backWay};
+
+// The open splits of a node. Each walk has this choice for itself: then the masks are part of its code, and the rules of
+// the picture's edge, which are long, stay a call.
+fn open_splits(u: &Table, row: u64, kept: u32) -> u32
+    ensures { λ r. ⌜ r ≡ openIn (now (u .entry)) row kept ⌝ }
+{
+    if nodes::may_reach_past(kept) {
+        nodes::edge_splits(u, row, kept)
+    } else {
+        nodes::inner_splits(u, row, kept)
+    }
+}
 
 // Turns the rows of a node back. A node whose corner is outside the picture is skipped.
 pub(crate) fn node_back(
@@ -38,7 +51,7 @@ pub(crate) fn node_back(
         return nodes::stopping(16, 0);
     }
     let out = nodes::out(u, row, kept);
-    let splits = nodes::open_splits(u, row, kept);
+    let splits = open_splits(u, row, kept);
     let d = decision_ahead(u, row, out, rows, at);
     if !allowed(out, splits, d) {
         return nodes::stopping(16, 0);

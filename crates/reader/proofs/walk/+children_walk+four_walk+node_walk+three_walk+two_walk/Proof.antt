@@ -41,7 +41,7 @@ use Rattle.blocks.proofs.put_row.Reads as put-row-reads
 use Rattle.flags.proofs.decide.Reads as decide-reads
 use Rattle.nodes.proofs.child_row.Reads as child-row-reads
 use Rattle.nodes.proofs.kept_under.Reads as kept-under-reads
-use Rattle.nodes.proofs.open_splits.Reads as open-splits-reads
+use Rattle.reader.proofs.walk.open_splits.Reads as open-splits-reads
 use Rattle.nodes.proofs.out.Reads as out-reads
 use Rattle.nodes.proofs.skipped.Reads as skipped-reads
 use Rattle.nodes.proofs.count.Reads as count-reads

@@ -8,11 +8,8 @@ use Rattle.writer.proofs.put.put_flags.Tie as tie
 enum-told : tie.Need-enum-told
 enum-told c = search needs
 
-horizontal-requires : tie.Need-horizontal-requires
-horizontal-requires c κs = search needs
-
-vertical-requires : tie.Need-vertical-requires
-vertical-requires c κs = search needs
+some-open-requires : tie.Need-some-open-requires
+some-open-requires c κs = search needs
 
 put-requires : tie.Need-put-requires
 put-requires c κs = search needs
@@ -20,11 +17,11 @@ put-requires c κs = search needs
 enum-told-2 : tie.Need-enum-told-2
 enum-told-2 c = search needs
 
-horizontal-requires-2 : tie.Need-horizontal-requires-2
-horizontal-requires-2 c κs = search needs
+horizontal-requires : tie.Need-horizontal-requires
+horizontal-requires c κs = search needs
 
-vertical-requires-2 : tie.Need-vertical-requires-2
-vertical-requires-2 c κs = search needs
+vertical-requires : tie.Need-vertical-requires
+vertical-requires c κs = search needs
 
 put-requires-2 : tie.Need-put-requires-2
 put-requires-2 c κs = search needs
@@ -46,10 +43,10 @@ put-cut-requires-2 c κs = search needs
 
 returns : tie.Need-returns
 returns c =
-    let s = c .before .before in
-    let f = s .before in
-    let a = f .before .before .before .args in
-    rw (f .before .enum-told .given .1) (put-leaf (a .out) (a .splits) (now (a .flags)) (a .n) (f .horizontal .ensures) (s .vertical .ensures) (c .put .ensures))
+    let s = c .before in
+    let told = s .before .before in
+    let a = told .before .before .args in
+    rw (told .enum-told .given .1) (put-leaf (a .out) (a .splits) (now (a .flags)) (a .n) (s .some-open .ensures) (c .put .ensures))
 
 returns-2 : tie.Need-returns-2
 returns-2 c =
@@ -57,7 +54,7 @@ returns-2 c =
     let s = p .before .before in
     let f = s .before in
     let a = f .before .before .before .args in
-    rw (f .before .enum-told2 .given .1) (put-quad (a .out) (a .splits) (now (a .flags)) (a .n) (f .horizontal2 .ensures) (s .vertical2 .ensures) (p .put2 .ensures) (c .put3 .ensures))
+    rw (f .before .enum-told2 .given .1) (put-quad (a .out) (a .splits) (now (a .flags)) (a .n) (f .horizontal .ensures) (s .vertical .ensures) (p .put2 .ensures) (c .put3 .ensures))
 
 returns-3 : tie.Need-returns-3
 unfolding flagsFor
@@ -72,12 +69,11 @@ put-flags-spec =
     tie.close
     (tie.spec
     enum-told
-    horizontal-requires
-    vertical-requires
+    some-open-requires
     put-requires
     enum-told-2
-    horizontal-requires-2
-    vertical-requires-2
+    horizontal-requires
+    vertical-requires
     put-requires-2
     put-requires-3
     enum-known-d

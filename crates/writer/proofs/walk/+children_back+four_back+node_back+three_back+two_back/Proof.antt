@@ -42,7 +42,7 @@ use Rattle.writer.proofs.walk.two_back.Kinds as two-back-kinds
 use Rattle.writer.proofs.walk.+children_back+four_back+node_back+three_back+two_back.Lts-two_back as two-back-lts
 use Rattle.nodes.proofs.child_row.Reads as child-row-reads
 use Rattle.nodes.proofs.kept_under.Reads as kept-under-reads
-use Rattle.nodes.proofs.open_splits.Reads as open-splits-reads
+use Rattle.writer.proofs.walk.open_splits.Reads as open-splits-reads
 use Rattle.nodes.proofs.out.Reads as out-reads
 use Rattle.nodes.proofs.skipped.Reads as skipped-reads
 use Rattle.nodes.proofs.count.Reads as count-reads
