@@ -10,6 +10,7 @@ use tree::Direction;
 ghost use mathlib.Core.Path.{_≡_};
 ghost use Prim.Native.Nat.{_≤_, _<_};
 ghost use Rattle.tree.specs.Splits as Splits;
+ghost use Rattle.tree.specs.declared.Decision.the-variants.{Binary};
 ghost use Rattle.blocks.specs.Table.{shareAt};
 ghost use Rattle.nodes.specs.Tables.{limitsIn};
 ghost use Rattle.nodes.specs.Words as Words;
@@ -66,6 +67,16 @@ pub fn child_row(row: u64, d: Decision, i: u32) -> u64
     ensures { λ r. ⌜ r ≡ childRow row d i ⌝ }
 {
     std::num::wrapping_add_u64(row_above(row, d), step_to(row, d, i))
+}
+
+// The row of a half of a binary split. The direction is told apart first: for a known one the row is a sum of few numbers.
+pub fn half_row(row: u64, v: Direction, i: u32) -> u64
+    ensures { λ r. ⌜ r ≡ childRow row (Binary v) i ⌝ }
+{
+    match v {
+        Direction::Horizontal => child_row(row, Decision::Binary(Direction::Horizontal), i),
+        Direction::Vertical => child_row(row, Decision::Binary(Direction::Vertical), i),
+    }
 }
 
 // M, the bound of the MTT depth.

@@ -7,6 +7,7 @@ mod picture;
 mod state;
 
 pub use children::child_row;
+pub use children::half_row;
 pub use children::kept_under;
 pub use fields::height;
 pub use fields::left;

@@ -1,0 +1,59 @@
+//! The speed of the engine beside that of two unproved decoders, in one run: `h266`, plain safe
+//! Rust from the standard's text, and `tuned`, safe Rust driven by hand.
+//!
+//! `bench` prints a Markdown table; `bench callgrind ...` runs one kind of call without a clock, so
+//! that its instructions can be counted. `bench --help` explains both.
+#![forbid(unsafe_code)]
+
+mod callgrind;
+mod camera;
+mod classes;
+mod timing;
+mod work;
+
+use std::process::ExitCode;
+
+const HELP: &str = "\
+usage: bench
+       bench callgrind WORK CLASS CALLS
+
+Without arguments: times reading and the way back for five classes of units, and a worst-case
+second of four cameras, and prints a Markdown table. Each side is warmed up; the sides take turns
+within each round, and the best round counts.
+
+callgrind: makes CALLS calls of one kind, without a clock. WORK is a side (engine, h266 or
+tuned) and a way (read or write), like engine-read; CLASS is 1, mixed, 64, 1024 or quads. Calls go
+round the 256 units of the class, so a multiple of 256 weighs them equally. To count only the
+instructions of the calls:
+
+  valgrind --tool=callgrind --callgrind-out-file=/dev/null \\
+      --toggle-collect='*measured_calls*' bench callgrind engine-read 1024 256
+
+and divide the figure `Collected` by CALLS. The loop itself adds about ten instructions a call.
+";
+
+fn main() -> ExitCode {
+    let arguments: Vec<String> = std::env::args().skip(1).collect();
+    let arguments: Vec<&str> = arguments.iter().map(String::as_str).collect();
+    match arguments[..] {
+        [] => {
+            timing::print_table();
+            camera::print_second();
+            ExitCode::SUCCESS
+        }
+        ["callgrind", work, class, calls] => match callgrind::run(work, class, calls) {
+            Some(()) => ExitCode::SUCCESS,
+            None => usage(),
+        },
+        ["--help" | "-h"] => {
+            print!("{HELP}");
+            ExitCode::SUCCESS
+        }
+        _ => usage(),
+    }
+}
+
+fn usage() -> ExitCode {
+    eprint!("{HELP}");
+    ExitCode::FAILURE
+}

@@ -1,0 +1,96 @@
+//! The kinds of call that are timed.
+
+use std::hint::black_box;
+
+use colwythar::raw;
+
+use crate::classes::{Unit, ROOM};
+
+/// Which decoder.
+#[derive(Clone, Copy, PartialEq, Eq)]
+pub enum Side {
+    Engine,
+    H266,
+    Tuned,
+}
+
+impl Side {
+    pub const ALL: [Self; 3] = [Self::Engine, Self::H266, Self::Tuned];
+
+    pub fn name(self) -> &'static str {
+        match self {
+            Self::Engine => "engine",
+            Self::H266 => "h266",
+            Self::Tuned => "tuned",
+        }
+    }
+}
+
+/// Which way.
+#[derive(Clone, Copy, PartialEq, Eq)]
+pub enum Way {
+    Read,
+    Write,
+}
+
+impl Way {
+    pub const ALL: [Self; 2] = [Self::Read, Self::Write];
+
+    pub fn name(self) -> &'static str {
+        match self {
+            Self::Read => "read",
+            Self::Write => "write",
+        }
+    }
+
+    pub fn title(self) -> &'static str {
+        match self {
+            Self::Read => "reading",
+            Self::Write => "way back",
+        }
+    }
+}
+
+/// A call on a unit into a lent buffer. All sides are called through such a pointer, so that none
+/// is inlined into the loop.
+pub type Call = fn(&Unit, &mut [u8]) -> [u64; 2];
+
+/// The call of one side and way.
+pub fn call(side: Side, way: Way) -> Call {
+    match (side, way) {
+        (Side::Engine, Way::Read) => {
+            |u, lent| raw::read_unit(&u.settings, u.address, &u.flags, lent)
+        }
+        (Side::Engine, Way::Write) => {
+            |u, lent| raw::write_flags(&u.settings, u.address, &u.rows, lent)
+        }
+        (Side::H266, Way::Read) => {
+            |u, lent| h266::read_unit(&u.settings, u.address, &u.flags, lent).into()
+        }
+        (Side::H266, Way::Write) => {
+            |u, lent| h266::write_flags(&u.settings, u.address, &u.rows, lent).into()
+        }
+        (Side::Tuned, Way::Read) => {
+            |u, lent| tuned::read_unit(&u.settings, u.address, &u.flags, lent).into()
+        }
+        (Side::Tuned, Way::Write) => {
+            |u, lent| tuned::write_flags(&u.settings, u.address, &u.rows, lent).into()
+        }
+    }
+}
+
+/// A buffer to lend. It is the same for all calls and is not cleared between them.
+pub struct Buffer(Vec<u8>);
+
+impl Buffer {
+    pub fn new() -> Self {
+        Self(vec![0; ROOM])
+    }
+
+    /// Makes one call into this buffer.
+    #[inline(always)]
+    pub fn lend(&mut self, call: Call, unit: &Unit) {
+        let answer = call(black_box(unit), black_box(&mut self.0[..]));
+        assert!(black_box(answer)[0] == 0, "a legal unit was refused");
+    }
+}

@@ -1,0 +1,100 @@
+//! Safe wrapper of Colwythar, a proved engine for the coding tree of H.266.
+//!
+//! The engine turns the split flags of one unit into its table of coding blocks, and a table back
+//! into the flags. Everything that it refuses has a number and a place; a refused call leaves
+//! buffers and session as they were.
+//!
+//! A picture is read unit by unit through a [`Session`]:
+//!
+//! ```
+//! use colwythar::{rows, Session, Settings};
+//!
+//! let settings = Settings {
+//!     ctu: 64, min_cb: 4, min_qt: 8, max_mtt: 3, max_bt: 32, max_tt: 32, width: 128, height: 64,
+//! };
+//! let mut session = Session::open(settings)?;
+//! let mut table = [0u8; 8 * 1024];
+//!
+//! let count = session.unit(0, &[1, 0, 0, 0, 0], &mut table)?;
+//! let blocks: Vec<_> = rows(&table[..8 * count]).collect();
+//! assert_eq!(blocks.len(), 4);
+//! assert_eq!((blocks[1].x, blocks[1].y, blocks[1].width()), (32, 0, 32));
+//!
+//! session.unit(1, &[0], &mut table)?;
+//! assert!(session.is_complete());
+//! # Ok::<(), colwythar::Refusal>(())
+//! ```
+//!
+//! Single units need no session: [`read_unit`] and [`write_flags`].
+//!
+//! The static library is looked for in the folder `COLWYTHAR_LIB_DIR`, else in the repository's
+//! `target/staticlib`; if it is not there, the build script has it proved and built.
+#![warn(missing_docs)]
+
+pub mod raw;
+mod refusal;
+mod row;
+mod session;
+mod settings;
+
+pub use refusal::Refusal;
+pub use row::{rows, Row};
+pub use session::Session;
+pub use settings::Settings;
+
+/// Reads one unit's flags, writes its rows and answers how many.
+///
+/// A row takes 8 bytes; bytes of `rows` past the answer stay as they were.
+///
+/// ```
+/// use colwythar::{read_unit, Settings};
+///
+/// let settings = Settings {
+///     ctu: 64, min_cb: 4, min_qt: 8, max_mtt: 3, max_bt: 32, max_tt: 32, width: 64, height: 64,
+/// };
+/// let mut rows = [0; 32];
+/// assert_eq!(read_unit(&settings, 0, &[1, 0, 0, 0, 0], &mut rows), Ok(4));
+/// assert_eq!(rows[8..16], [0x20, 0, 0, 0, 5, 5, 1, 0]);
+///
+/// let refusal = read_unit(&settings, 0, &[1, 0, 0, 0], &mut rows).unwrap_err();
+/// assert_eq!((refusal.number, refusal.place), (11, 4));
+/// ```
+///
+/// # Errors
+///
+/// Numbers 1 to 14.
+pub fn read_unit(
+    settings: &Settings,
+    address: u64,
+    flags: &[u8],
+    rows: &mut [u8],
+) -> Result<usize, Refusal> {
+    Refusal::check(raw::read_unit(&settings.to_array(), address, flags, rows))
+}
+
+/// Writes the flags that give exactly these rows and answers how many.
+///
+/// Bytes of `flags` past the answer stay as they were.
+///
+/// ```
+/// use colwythar::{write_flags, Settings};
+///
+/// let settings = Settings {
+///     ctu: 64, min_cb: 4, min_qt: 8, max_mtt: 3, max_bt: 32, max_tt: 32, width: 64, height: 64,
+/// };
+/// let mut flags = [7; 2];
+/// assert_eq!(write_flags(&settings, 0, &[0, 0, 0, 0, 6, 6, 0, 0], &mut flags), Ok(1));
+/// assert_eq!(flags, [0, 7]);
+/// ```
+///
+/// # Errors
+///
+/// Numbers 1 to 10 and 15 to 17.
+pub fn write_flags(
+    settings: &Settings,
+    address: u64,
+    rows: &[u8],
+    flags: &mut [u8],
+) -> Result<usize, Refusal> {
+    Refusal::check(raw::write_flags(&settings.to_array(), address, rows, flags))
+}

@@ -1,0 +1,71 @@
+//! What the engine answers when it does not accept a call.
+
+use std::error::Error;
+use std::fmt;
+
+/// A refusal: its number and its place, 0 where the number has none.
+///
+/// ```
+/// use colwythar::Refusal;
+///
+/// let refusal = Refusal { number: 14, place: 4 };
+/// assert_eq!(refusal.to_string(), "refusal 14: the row buffer is too short, 4 rows are needed");
+/// ```
+#[derive(Clone, Copy, Debug, PartialEq, Eq, Hash)]
+pub struct Refusal {
+    /// 1 to 17 or 20 to 22.
+    pub number: u64,
+    /// Where or how much, according to the number.
+    pub place: u64,
+}
+
+impl Refusal {
+    /// Takes an answer of the C interface apart.
+    #[inline]
+    pub(crate) fn check(answer: [u64; 2]) -> Result<usize, Self> {
+        match answer {
+            // A count never exceeds the lent buffer, so it fits.
+            [0, count] => Ok(count as usize),
+            [number, place] => Err(Self { number, place }),
+        }
+    }
+
+    /// The sentence for a number that has no place.
+    fn sentence(&self) -> &'static str {
+        match self.number {
+            1 => "the CTU side is not 32, 64 or 128",
+            2 => "MinCb is no power of two from 4 to the smaller of 64 and the CTU side",
+            3 => "MinQt is no power of two from MinCb to the smaller of 64 and the CTU side",
+            4 => "the greatest multi-type depth is too great",
+            5 => "MaxBt is no power of two from MinQt to the CTU side",
+            6 => "MaxTt is no power of two from MinQt to the smaller of 64 and the CTU side",
+            7 => "the width is 0, above 16384 or no multiple of the larger of 8 and MinCb",
+            8 => "the height is 0, above 16384 or no multiple of the larger of 8 and MinCb",
+            9 => "without multi-type splits, width and height have to be multiples of MinQt",
+            10 => "the picture has no such unit",
+            16 => "no flags give these rows",
+            20 => "the picture is complete",
+            22 => "this is no session that an opening or an accepted unit yielded",
+            _ => "the engine gave an unknown number",
+        }
+    }
+}
+
+impl fmt::Display for Refusal {
+    fn fmt(&self, f: &mut fmt::Formatter<'_>) -> fmt::Result {
+        let Self { number, place } = self;
+        write!(f, "refusal {number}: ")?;
+        match number {
+            11 => write!(f, "the flags end after {place} bytes, before the tree does"),
+            12 => write!(f, "byte {place} is no flag"),
+            13 => write!(f, "the tree ends before byte {place} of the flags"),
+            14 => write!(f, "the row buffer is too short, {place} rows are needed"),
+            15 => write!(f, "the table ends within a row, after {place} whole ones"),
+            17 => write!(f, "the flag buffer is too short, {place} flags are needed"),
+            21 => write!(f, "another unit is due, unit {place}"),
+            _ => f.write_str(self.sentence()),
+        }
+    }
+}
+
+impl Error for Refusal {}

@@ -1,0 +1,56 @@
+//! The eight settings of a picture.
+
+/// The settings, in luma samples except `max_mtt`. Nothing is checked before a call.
+///
+/// ```
+/// use colwythar::Settings;
+///
+/// let settings = Settings::from([128, 4, 8, 3, 64, 64, 1920, 1080]);
+/// assert_eq!(settings.ctu, 128);
+/// assert_eq!(settings.to_array()[7], settings.height);
+/// assert_eq!(settings.unit_count(), 135);
+/// ```
+#[derive(Clone, Copy, Debug, PartialEq, Eq, Hash)]
+pub struct Settings {
+    /// CTU side: 32, 64 or 128.
+    pub ctu: u32,
+    /// Smallest side of a coding block.
+    pub min_cb: u32,
+    /// Smallest side of a quad tree leaf.
+    pub min_qt: u32,
+    /// Greatest depth of binary and ternary splits.
+    pub max_mtt: u32,
+    /// Largest side that may be split into two.
+    pub max_bt: u32,
+    /// Largest side that may be split into three.
+    pub max_tt: u32,
+    /// Picture width.
+    pub width: u32,
+    /// Picture height.
+    pub height: u32,
+}
+
+impl Settings {
+    /// The settings in the order of the C interface.
+    #[inline]
+    pub fn to_array(&self) -> [u32; 8] {
+        let Self { ctu, min_cb, min_qt, max_mtt, max_bt, max_tt, width, height } = *self;
+        [ctu, min_cb, min_qt, max_mtt, max_bt, max_tt, width, height]
+    }
+
+    /// How many units the picture has; one at the right or bottom edge counts as one. 0 where the
+    /// CTU side is 0.
+    pub fn unit_count(&self) -> u64 {
+        if self.ctu == 0 {
+            return 0;
+        }
+        u64::from(self.width.div_ceil(self.ctu)) * u64::from(self.height.div_ceil(self.ctu))
+    }
+}
+
+impl From<[u32; 8]> for Settings {
+    fn from(values: [u32; 8]) -> Self {
+        let [ctu, min_cb, min_qt, max_mtt, max_bt, max_tt, width, height] = values;
+        Self { ctu, min_cb, min_qt, max_mtt, max_bt, max_tt, width, height }
+    }
+}

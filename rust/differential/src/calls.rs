@@ -1,0 +1,138 @@
+//! Random calls on single units.
+
+use h266::{Params, Settings};
+use samples::{damage, settings, trees, Rng, Style};
+
+use crate::Engine;
+
+/// More than the rows or flags of any unit need.
+pub(crate) const ROOM: usize = 8_192;
+
+/// A random unit of a picture, its flags, and what both directions take of room.
+struct Unit {
+    settings: Settings,
+    address: u64,
+    flags: Vec<u8>,
+    rows: Vec<u8>,
+}
+
+/// One round: a legal unit in both directions, then the same unit damaged in several ways.
+pub fn round(engine: &mut Engine, rng: &mut Rng) {
+    let settings = settings::valid(rng);
+    let unit = legal(engine, rng, settings);
+    rooms(engine, rng, &unit);
+    damaged_flags(engine, rng, &unit);
+    damaged_rows(engine, rng, &unit);
+    lawless_rows(engine, rng, &unit);
+    other_limits(engine, rng, &unit);
+    no_such_unit(engine, rng, &unit);
+    broken_settings(engine, rng, &unit);
+}
+
+/// A random tree, read and turned back on all sides.
+fn legal(engine: &mut Engine, rng: &mut Rng, settings: Settings) -> Unit {
+    assert_eq!(engine.open(&settings), 0);
+    let address = rng.draw() % unit_count(&settings);
+    let style = rng.pick(&Style::ALL);
+    let flags = trees::flags(&settings, address, rng, style);
+    let read = engine.read(rng, &settings, address, &flags, ROOM);
+    assert_eq!(read.number, 0, "a legal tree was refused: {settings:?} {address} {flags:?}");
+    let rows = read.written;
+    let back = engine.write(rng, &settings, address, &rows, ROOM);
+    assert_eq!(back.written, flags, "the way back gave other flags: {settings:?} {address}");
+    Unit { settings, address, flags, rows }
+}
+
+fn unit_count(settings: &Settings) -> u64 {
+    Params::new(settings).expect("valid settings").unit_count()
+}
+
+/// A length around the one needed.
+fn room(rng: &mut Rng, needed: usize) -> usize {
+    match rng.below(6) {
+        0 => 0,
+        1 => needed.saturating_sub(1),
+        2 => needed,
+        3 => needed + 1,
+        4 => needed + rng.below(100),
+        _ => rng.below(needed + 1),
+    }
+}
+
+/// Buffers that are too short, exact or longer.
+fn rooms(engine: &mut Engine, rng: &mut Rng, unit: &Unit) {
+    let Unit { settings, address, flags, rows } = unit;
+    let short = room(rng, rows.len());
+    engine.read(rng, settings, *address, flags, short);
+    let short = room(rng, flags.len());
+    engine.write(rng, settings, *address, rows, short);
+}
+
+/// Flags that are changed, cut or extended; also with a short buffer, which is seen later.
+fn damaged_flags(engine: &mut Engine, rng: &mut Rng, unit: &Unit) {
+    let mut flags = unit.flags.clone();
+    for _ in 0..4 {
+        damage::flags(rng, &mut flags);
+        let room = if rng.percent(70) { ROOM } else { room(rng, unit.rows.len()) };
+        engine.read(rng, &unit.settings, unit.address, &flags, room);
+        if rng.percent(60) {
+            flags.clone_from(&unit.flags);
+        }
+    }
+}
+
+/// Tables that are changed, cut or extended; also with a short buffer, which is seen later.
+fn damaged_rows(engine: &mut Engine, rng: &mut Rng, unit: &Unit) {
+    let mut rows = unit.rows.clone();
+    for _ in 0..5 {
+        damage::rows(rng, &mut rows);
+        let room = if rng.percent(70) { ROOM } else { room(rng, unit.flags.len()) };
+        engine.write(rng, &unit.settings, unit.address, &rows, room);
+        if rng.percent(60) {
+            rows.clone_from(&unit.rows);
+        }
+    }
+}
+
+/// Tables that look like a tree's, but break a rule somewhere.
+fn lawless_rows(engine: &mut Engine, rng: &mut Rng, unit: &Unit) {
+    for _ in 0..3 {
+        let rows = trees::lawless_rows(&unit.settings, unit.address, rng);
+        engine.write(rng, &unit.settings, unit.address, &rows, ROOM);
+    }
+}
+
+/// The same flags and rows under settings with another limit.
+fn other_limits(engine: &mut Engine, rng: &mut Rng, unit: &Unit) {
+    let settings = settings::neighbour(rng, &unit.settings);
+    engine.read(rng, &settings, unit.address, &unit.flags, ROOM);
+    engine.write(rng, &settings, unit.address, &unit.rows, ROOM);
+}
+
+/// Addresses from the unit count on, and other units' addresses for this unit's data.
+fn no_such_unit(engine: &mut Engine, rng: &mut Rng, unit: &Unit) {
+    let count = unit_count(&unit.settings);
+    let beyond = rng.pick(&[count, count + 1, count + (1 << 32), u64::MAX]);
+    let other = rng.draw() % count;
+    for address in [beyond, other] {
+        engine.read(rng, &unit.settings, address, &unit.flags, ROOM);
+        engine.write(rng, &unit.settings, address, &unit.rows, ROOM);
+    }
+}
+
+/// Settings for each refusal, with data that may be damaged too, which is seen later.
+fn broken_settings(engine: &mut Engine, rng: &mut Rng, unit: &Unit) {
+    let number = 1 + rng.below(9);
+    let settings = settings::invalid(rng, number);
+    let (mut flags, mut rows) = (unit.flags.clone(), unit.rows.clone());
+    if rng.percent(50) {
+        damage::flags(rng, &mut flags);
+        damage::rows(rng, &mut rows);
+    }
+    let address = rng.pick(&[0, unit.address, u64::MAX]);
+    engine.open(&settings);
+    let lent = room(rng, rows.len());
+    engine.read(rng, &settings, address, &flags, lent);
+    let lent = room(rng, flags.len());
+    engine.write(rng, &settings, address, &rows, lent);
+}

@@ -1,0 +1,28 @@
+//! Compares the engine with two unproved decoders, call by call: `h266`, written from the standard's
+//! text, and `tuned`.
+//!
+//! Each comparison makes the same call on all three sides, with equal buffers of random bytes between
+//! guard bytes, and asserts that the answers, the buffers, the guards and the session's address due
+//! are equal afterwards. The calls come from random legal trees, damaged flags and tables, broken
+//! settings, lent buffers of every kind of length, whole sessions, and small units in full.
+//!
+//! ```
+//! use differential::{calls, Engine};
+//! use samples::Rng;
+//!
+//! let (mut engine, mut rng) = (Engine::default(), Rng::new(1));
+//! calls::round(&mut engine, &mut rng);
+//! assert!(engine.tally.calls() > 0);
+//! ```
+#![forbid(unsafe_code)]
+#![warn(missing_docs)]
+
+pub mod calls;
+mod engine;
+mod lent;
+pub mod sessions;
+pub mod small;
+mod tally;
+
+pub use engine::{Engine, Outcome, UnitCall};
+pub use tally::{Entry, Tally};

@@ -1,0 +1,89 @@
+//! How many calls were made, and how they were answered.
+
+use std::fmt;
+
+/// One above the greatest number of a refusal.
+const NUMBERS: usize = 23;
+
+/// The four functions of the engine.
+#[derive(Clone, Copy, Debug, PartialEq, Eq)]
+pub enum Entry {
+    /// Flags to rows.
+    Read,
+    /// Rows to flags.
+    Write,
+    /// Opening a session.
+    Open,
+    /// A unit of a session.
+    Unit,
+}
+
+impl Entry {
+    /// All four.
+    pub const ALL: [Self; 4] = [Self::Read, Self::Write, Self::Open, Self::Unit];
+
+    /// The refusals that this function can give.
+    pub fn numbers(self) -> Vec<usize> {
+        match self {
+            Self::Read => (1..=14).collect(),
+            Self::Write => (1..=10).chain(15..=17).collect(),
+            Self::Open => (1..=9).collect(),
+            Self::Unit => (11..=14).chain(20..=22).collect(),
+        }
+    }
+}
+
+/// Answers by function and number; number 0 counts the accepted calls.
+#[derive(Clone, Debug, Default)]
+pub struct Tally {
+    answers: [[u64; NUMBERS]; 4],
+}
+
+impl Tally {
+    /// Counts one answer.
+    ///
+    /// # Panics
+    ///
+    /// Where there is no such number.
+    pub fn count(&mut self, entry: Entry, number: u64) {
+        self.answers[entry as usize][number as usize] += 1;
+    }
+
+    /// How often this function gave this number; 0 stands for accepted.
+    pub fn of(&self, entry: Entry, number: usize) -> u64 {
+        self.answers[entry as usize][number]
+    }
+
+    /// All calls.
+    pub fn calls(&self) -> u64 {
+        self.answers.iter().flatten().sum()
+    }
+
+    /// Asserts that every answer that a function can give came at least this often.
+    ///
+    /// # Panics
+    ///
+    /// Where one did not.
+    pub fn assert_each(&self, entry: Entry, least: u64) {
+        for number in [vec![0], entry.numbers()].concat() {
+            let times = self.of(entry, number);
+            assert!(times >= least, "{entry:?} answered {number} only {times} times:\n{self}");
+        }
+    }
+}
+
+impl fmt::Display for Tally {
+    fn fmt(&self, f: &mut fmt::Formatter<'_>) -> fmt::Result {
+        for entry in Entry::ALL {
+            if self.answers[entry as usize].iter().all(|&times| times == 0) {
+                continue;
+            }
+            write!(f, "{entry:?}: {} accepted; refused", self.of(entry, 0))?;
+            for number in entry.numbers() {
+                write!(f, " {number}: {}", self.of(entry, number))?;
+            }
+            writeln!(f)?;
+        }
+        write!(f, "{} calls", self.calls())
+    }
+}

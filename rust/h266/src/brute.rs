@@ -1,0 +1,46 @@
+//! The way back by brute force: every tree of a small unit.
+//!
+//! It knows nothing of splits. It feeds a reader ever longer strings of flags, and learns from the
+//! refusal 11 that the tree is not yet whole.
+
+use std::collections::HashMap;
+
+/// Every table of a unit, with the flags that give it.
+pub type Trees = HashMap<Vec<u8>, Vec<u8>>;
+
+/// Room for the rows of the largest unit.
+const ROW_BYTES: usize = 8 * crate::MAX_ROWS;
+
+/// All trees of the unit that `read` reads, or nothing where there are more than `limit`.
+///
+/// `read` gets flags and a row buffer and gives the answer of a unit's reader.
+///
+/// # Panics
+///
+/// Where two strings of flags give the same rows, or a reader refuses with another number than 11.
+pub fn all_trees(
+    limit: usize,
+    mut read: impl FnMut(&[u8], &mut [u8]) -> crate::Answer,
+) -> Option<Trees> {
+    let mut trees = Trees::new();
+    let mut rows = vec![0; ROW_BYTES];
+    let mut open = vec![Vec::new()];
+    while let Some(flags) = open.pop() {
+        match read(&flags, &mut rows) {
+            (0, count) => {
+                let table = rows[..8 * count as usize].to_vec();
+                assert!(trees.insert(table, flags).is_none(), "two trees with the same rows");
+            }
+            (11, place) => {
+                assert_eq!(place, flags.len() as u64, "flags end at their end");
+                // The shorter trees first: the last string goes on.
+                open.extend([1, 0].map(|flag| [flags.as_slice(), &[flag]].concat()));
+            }
+            other => panic!("{flags:?} answered {other:?}"),
+        }
+        if trees.len() + open.len() > limit {
+            return None;
+        }
+    }
+    Some(trees)
+}

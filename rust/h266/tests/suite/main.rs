@@ -1,0 +1,5 @@
+//! Tests of the second decoder; they need no engine.
+
+mod exhaustive;
+mod paper;
+mod random;

@@ -1,0 +1,26 @@
+//! Inputs for the tests and the benchmark.
+//!
+//! Settings, legal trees of several styles, and damage to flags and tables come from a small
+//! generator with a fixed seed, so that every run sees the same inputs; the examples are those of
+//! document 01. Trees are walked with the allowed splits of the crate `h266`; the engine is not
+//! needed here.
+//!
+//! ```
+//! use samples::{trees, Rng, Style};
+//!
+//! let settings = [64, 4, 8, 3, 32, 32, 64, 64];
+//! let flags = trees::flags(&settings, 0, &mut Rng::new(1), Style::Mixed);
+//! let mut rows = [0; 8192];
+//! assert_eq!(h266::read_unit(&settings, 0, &flags, &mut rows).0, 0);
+//! ```
+#![forbid(unsafe_code)]
+#![warn(missing_docs)]
+
+pub mod damage;
+pub mod paper;
+mod rng;
+pub mod settings;
+pub mod trees;
+
+pub use rng::Rng;
+pub use trees::Style;

@@ -1,0 +1,43 @@
+//! The checked examples of document 01.
+
+use samples::paper::{examples, Example, A};
+use tuned::{open, read_unit, write_flags};
+
+#[test]
+fn p1_to_p7() {
+    for Example { settings, address, flags, rows } in examples() {
+        let mut got = vec![0xa5; rows.len()];
+        let count = rows.len() as u64 / 8;
+        assert_eq!(read_unit(&settings, address, flags, &mut got), (0, count));
+        assert_eq!(got, rows);
+        let mut got = vec![0xa5; flags.len()];
+        let count = flags.len() as u64;
+        assert_eq!(write_flags(&settings, address, &rows, &mut got), (0, count));
+        assert_eq!(got, flags);
+    }
+}
+
+#[test]
+fn p8_to_p10() {
+    let rows = &mut [0xa5; 100];
+    assert_eq!(read_unit(&A, 0, &[], rows), (11, 0));
+    assert_eq!(read_unit(&A, 0, &[0, 0], rows), (13, 1));
+    assert_eq!(write_flags(&A, 0, &[], rows), (16, 0));
+    assert_eq!(*rows, [0xa5; 100]);
+}
+
+#[test]
+fn examples_of_the_test_program() {
+    let [_, Example { flags, rows: mut table, .. }, ..] = examples();
+    let rows = &mut [0xa5; 100];
+    assert_eq!(read_unit(&A, 0, &[2], rows), (12, 0));
+    assert_eq!(read_unit(&A, 0, &[1, 0, 0, 0], rows), (11, 4));
+    assert_eq!(read_unit(&A, 0, flags, &mut rows[..31]), (14, 4));
+    assert_eq!(write_flags(&A, 0, &table, &mut rows[..4]), (17, 5));
+    table[..16].rotate_left(8);
+    assert_eq!(write_flags(&A, 0, &table, rows), (16, 0));
+    assert_eq!(*rows, [0xa5; 100]);
+    assert_eq!(open(&[64, 4, 8, 3, 32, 32, 68, 64]), (7, 0));
+    assert_eq!(open(&[64, 4, 16, 0, 32, 32, 72, 64]), (9, 0));
+    assert_eq!(open(&[64, 4, 16, 0, 32, 32, 80, 64]), (0, 0));
+}
