@@ -10,7 +10,7 @@ use tree::Direction;
 ghost use mathlib.Core.Path.{_≡_};
 ghost use mathlib.Core.List.{[], _∷_};
 ghost use Prim.Native.Nat.{min};
-ghost use Rattle.nodes.specs.Stands.{word, fourWords, twoWords, threeWords, kidWords};
+ghost use Rattle.nodes.specs.Stands.{word, fourWords, threeWords, kidWords};
 ghost use Rattle.nodes.specs.Walks.{Asked, Walked};
 ghost use Rattle.nodes.specs.Words.{openIn};
 ghost use Rattle.reader.specs.Walking.{readWay};
@@ -94,7 +94,9 @@ pub(crate) fn children_walk(
         }
         Decision::Binary(v) => {
             let k = nodes::kept_under(u, row, kept, out, d, 0);
-            two_walk(u, flags, rows, c, row, v, k)
+            let row0 = nodes::half_row(row, v, 0);
+            let row1 = nodes::half_row(row, v, 1);
+            two_walk(u, flags, rows, c, row0, row1, k)
         }
         Decision::Ternary(v) => {
             let k = nodes::kept_under(u, row, kept, out, d, 0);
@@ -141,19 +143,17 @@ pub(crate) fn two_walk(
     flags: &[u8],
     rows: &mut Scratch,
     c: u64,
-    row: u64,
-    d: Direction,
+    row0: u64,
+    row1: u64,
     kept: u32,
 ) -> u64
-    requires { ⌜ Asked (readWay (now flags)) (now u) c (twoWords row d kept) ⌝ }
-    ensures { λ r. ⌜ Walked (readWay (now (flags .entry))) (now (u .entry)) c (twoWords row d kept) (now (rows .entry)) r (now (rows .exit)) ⌝ }
+    requires { ⌜ Asked (readWay (now flags)) (now u) c (word row0 kept ∷ word row1 kept ∷ []) ⌝ }
+    ensures { λ r. ⌜ Walked (readWay (now (flags .entry))) (now (u .entry)) c (word row0 kept ∷ word row1 kept ∷ []) (now (rows .entry)) r (now (rows .exit)) ⌝ }
 {
-    let row0 = nodes::child_row(row, Decision::Binary(d), 0);
     let first = node_walk(u, flags, rows, c, row0, kept);
     let Child::Walked(c1) = taken_apart(first) else {
         return first;
     };
-    let row1 = nodes::child_row(row, Decision::Binary(d), 1);
     node_walk(u, flags, rows, c1, row1, kept)
 }
 

@@ -1,5 +1,5 @@
 use Prim.Native.Nat.{ℕ, _+_, _*_, _%_, _<_}
-use mathlib.Core.Path.{sym, ap, subst, _∙_}
+use mathlib.Core.Path.{_≡_, refl, sym, ap, ap₂, subst, _∙_}
 use native.Mathlib.Omega.{arith}
 use mathlib.Core.Bool.{false}
 use mathlib.Core.List.{[], _∷_}
@@ -7,8 +7,8 @@ use denote.Ref.{now}
 use Rattle.blocks.specs.Words.{putWord}
 use Rattle.nodes.specs.Words.{reachesOut, childRow}
 use Rattle.tree.specs.declared.Choice.the-variants.{Chosen}
-use Rattle.tree.specs.declared.Decision.the-variants.{Quad, Binary, Ternary}
-use Rattle.nodes.specs.Stands.{word, fourWords, twoWords, threeWords, kidWords}
+use Rattle.tree.specs.declared.Decision.the-variants.{Quad, Ternary}
+use Rattle.nodes.specs.Stands.{word, fourWords, threeWords, kidWords}
 use Rattle.nodes.specs.State.{countOf, going}
 use Rattle.nodes.specs.Walks.{Asked, Walked}
 use Rattle.reader.specs.Walking.{readWay}
@@ -40,6 +40,7 @@ use Rattle.reader.proofs.walk.+children_walk+four_walk+node_walk+three_
 use Rattle.blocks.proofs.put_row.Reads as put-row-reads
 use Rattle.flags.proofs.decide.Reads as decide-reads
 use Rattle.nodes.proofs.child_row.Reads as child-row-reads
+use Rattle.nodes.proofs.half_row.Reads as half-row-reads
 use Rattle.nodes.proofs.kept_under.Reads as kept-under-reads
 use Rattle.reader.proofs.walk.open_splits.Reads as open-splits-reads
 use Rattle.nodes.proofs.out.Reads as out-reads
@@ -66,7 +67,7 @@ abbrev μ-three-walk : Measures 3 three-walk-kinds.ps ℕ
 μ-three-walk κs a = areasIn (threeWords (a .1 .1 .1 .1 .0) (a .1 .1 .1 .1 .1 .0) 0 0) * 4 + 1
 
 abbrev μ-two-walk : Measures 3 two-walk-kinds.ps ℕ
-μ-two-walk κs a = areasIn (twoWords (a .1 .1 .1 .1 .0) (a .1 .1 .1 .1 .1 .0) 0) * 4 + 1
+μ-two-walk κs a = areasIn (word (a .1 .1 .1 .1 .0) 0 ∷ word (a .1 .1 .1 .1 .1 .0) 0 ∷ []) * 4 + 1
 
 abbrev children-walk-at : ℕ → In 3 children-walk-kinds.ps
 children-walk-at t =
@@ -111,7 +112,7 @@ two-walk-below t =
 
 -- what the functions that each member calls ask and give
 abbrev children-claims : ℕ → children-walk-lts.Claims
-children-claims t = (kept-under-reads.Asked, kept-under-reads.Learnt, four-walk-below t, four-walk.Post, two-walk-below t, two-walk.Post, three-walk-below t, three-walk.Post)
+children-claims t = (kept-under-reads.Asked, kept-under-reads.Learnt, four-walk-below t, four-walk.Post, half-row-reads.Asked, half-row-reads.Learnt, two-walk-below t, two-walk.Post, three-walk-below t, three-walk.Post)
 
 abbrev four-claims : ℕ → four-walk-lts.Claims
 four-claims t = (child-row-reads.Asked, child-row-reads.Learnt, node-walk-below t, node-walk.Post, taken-apart-reads.Asked, taken-apart-reads.Learnt)
@@ -123,7 +124,11 @@ abbrev three-claims : ℕ → three-walk-lts.Claims
 three-claims t = (child-row-reads.Asked, child-row-reads.Learnt, node-walk-below t, node-walk.Post, taken-apart-reads.Asked, taken-apart-reads.Learnt)
 
 abbrev two-claims : ℕ → two-walk-lts.Claims
-two-claims t = (child-row-reads.Asked, child-row-reads.Learnt, node-walk-below t, node-walk.Post, taken-apart-reads.Asked, taken-apart-reads.Learnt)
+two-claims t = (node-walk-below t, node-walk.Post, taken-apart-reads.Asked, taken-apart-reads.Learnt)
+
+-- the numbers of two parts whose rows were found
+two-found : (k : ℕ) {a b x y : ℕ} → a ≡ x → b ≡ y → (word a k ∷ word b k ∷ []) ≡ (word x k ∷ word y k ∷ [])
+two-found k e f = ap₂ (λ a b. word a k ∷ word b k ∷ []) e f
 
 children-walk-enum-told : (t : ℕ) → children-walk-lts.Need-enum-told (children-claims t) (children-walk-at t) children-walk.Post
 children-walk-enum-told t c = search needs
@@ -152,16 +157,24 @@ children-walk-enum-known-d t c = search needs
 children-walk-kept-under-requires-2 : (t : ℕ) → children-walk-lts.Need-kept-under-requires-2 (children-claims t) (children-walk-at t) children-walk.Post
 children-walk-kept-under-requires-2 t c κs = search needs
 
+children-walk-half-row-requires : (t : ℕ) → children-walk-lts.Need-half-row-requires (children-claims t) (children-walk-at t) children-walk.Post
+children-walk-half-row-requires t c κs = search needs
+
+children-walk-half-row-requires-2 : (t : ℕ) → children-walk-lts.Need-half-row-requires-2 (children-claims t) (children-walk-at t) children-walk.Post
+children-walk-half-row-requires-2 t c κs = search needs
+
 children-walk-two-walk-requires : (t : ℕ) → children-walk-lts.Need-two-walk-requires (children-claims t) (children-walk-at t) children-walk.Post
 children-walk-two-walk-requires t c κs =
-    let k = c .before in
+    let h2 = c .before in
+    let h1 = h2 .before in
+    let k = h1 .before in
     let d = k .before .before in
     let st = d .before .before .before in
     let a = st .args in
     let way = readWay (now (a .flags)) in
     let e = d .d .given .1 in (
-      kids-fall (two-areas (now (a .u)) (a .row) _ e) (st .pre .0),
-      subst (λ ws. Asked way (now (a .u)) (a .c) ws) (sym (two-words (now (a .u)) (a .row) (a .kept) (a .out) _ e (k .kept-under2 .ensures))) (st .pre .1),
+      kids-fall (ap areasIn (two-found 0 (h1 .half-row .ensures) (h2 .half-row2 .ensures)) ∙ two-areas (now (a .u)) (a .row) _ e) (st .pre .0),
+      subst (λ ws. Asked way (now (a .u)) (a .c) ws) (sym (two-found (k .kept-under2 .result) (h1 .half-row .ensures) (h2 .half-row2 .ensures) ∙ two-words (now (a .u)) (a .row) (a .kept) (a .out) _ e (k .kept-under2 .ensures))) (st .pre .1),
     )
 
 children-walk-enum-known-d-2 : (t : ℕ) → children-walk-lts.Need-enum-known-d-2 (children-claims t) (children-walk-at t) children-walk.Post
@@ -205,13 +218,15 @@ children-walk-returns-2 t c =
 
 children-walk-returns-3 : (t : ℕ) → children-walk-lts.Need-returns-3 (children-claims t) (children-walk-at t) children-walk.Post
 children-walk-returns-3 t c =
-    let k = c .before .before in
+    let h2 = c .before .before in
+    let h1 = h2 .before in
+    let k = h1 .before in
     let d = k .before .before in
     let a = d .before .before .before .args in
     let way = readWay (now (a .flags)) in
     let e = d .d .given .1 in
     subst (λ ws. Walked way (now (a .u)) (a .c) ws (now (a .rows)) (c .two-walk .result) (c .two-walk .last .1 .1 .0))
-    (two-words (now (a .u)) (a .row) (a .kept) (a .out) _ e (k .kept-under2 .ensures)) (c .two-walk .ensures)
+    (two-found (k .kept-under2 .result) (h1 .half-row .ensures) (h2 .half-row2 .ensures) ∙ two-words (now (a .u)) (a .row) (a .kept) (a .out) _ e (k .kept-under2 .ensures)) (c .two-walk .ensures)
 
 children-walk-returns-4 : (t : ℕ) → children-walk-lts.Need-returns-4 (children-claims t) (children-walk-at t) children-walk.Post
 children-walk-returns-4 t c =
@@ -648,17 +663,13 @@ three-walk-returns-3 t c =
     let law = read-lawful (now (a .flags)) in
     found-rest way law (k1 .child-row .ensures) (n1 .node-walk .ensures) (was-walked _ (t1 .taken-apart .ensures) (o1 .c1 .given .1)) (found-rest way law (k2 .child-row2 .ensures) (n2 .node-walk2 .ensures) (was-walked _ (t2 .taken-apart2 .ensures) (o2 .c2 .given .1)) (as-found way law (k3 .child-row3 .ensures) (c .node-walk3 .ensures)))
 
-two-walk-child-row-requires : (t : ℕ) → two-walk-lts.Need-child-row-requires (two-claims t) (two-walk-at t) two-walk.Post
-two-walk-child-row-requires t c κs = search needs
-
 two-walk-node-walk-requires : (t : ℕ) → two-walk-lts.Need-node-walk-requires (two-claims t) (two-walk-at t) two-walk.Post
 two-walk-node-walk-requires t c κs =
-    let k1 = c .before in
-    let st = k1 .before .before in
+    let st = c .before .before in
     let a = st .args in
     let way = readWay (now (a .flags)) in
     let law = read-lawful (now (a .flags)) in
-    (part-falls (twoWords (a .row) (a .d) 0) (childRow (a .row) (Binary (a .d)) 0) (k1 .child-row .ensures) (at-first-of (word (childRow (a .row) (Binary (a .d)) 0) 0) (word (childRow (a .row) (Binary (a .d)) 1) 0) []) (st .pre .0), found-first way law (k1 .child-row .ensures) (st .pre .1))
+    (part-falls (word (a .row0) 0 ∷ word (a .row1) 0 ∷ []) (a .row0) refl (at-first-of (word (a .row0) 0) (word (a .row1) 0) []) (st .pre .0), found-first way law refl (st .pre .1))
 
 two-walk-taken-apart-requires : (t : ℕ) → two-walk-lts.Need-taken-apart-requires (two-claims t) (two-walk-at t) two-walk.Post
 two-walk-taken-apart-requires t c κs = search needs
@@ -673,41 +684,33 @@ two-walk-returns : (t : ℕ) → two-walk-lts.Need-returns (two-claims t) (two-w
 two-walk-returns t c =
     let t1 = c .before .before in
     let n1 = t1 .before in
-    let k1 = n1 .before .before in
-    let st = k1 .before .before in
+    let st = n1 .before .before .before in
     let a = st .args in
     let way = readWay (now (a .flags)) in
     let law = read-lawful (now (a .flags)) in
-    found-stop way law (k1 .child-row .ensures) (n1 .node-walk .ensures) (was-refused _ (t1 .taken-apart .ensures) (c .enum-told .given .1))
-
-two-walk-child-row-requires-2 : (t : ℕ) → two-walk-lts.Need-child-row-requires-2 (two-claims t) (two-walk-at t) two-walk.Post
-two-walk-child-row-requires-2 t c κs = search needs
+    found-stop way law refl (n1 .node-walk .ensures) (was-refused _ (t1 .taken-apart .ensures) (c .enum-told .given .1))
 
 two-walk-node-walk-requires-2 : (t : ℕ) → two-walk-lts.Need-node-walk-requires-2 (two-claims t) (two-walk-at t) two-walk.Post
 two-walk-node-walk-requires-2 t c κs =
-    let k2 = c .before in
-    let o1 = k2 .before .before in
+    let o1 = c .before .before in
     let t1 = o1 .before .before in
     let n1 = t1 .before in
-    let k1 = n1 .before .before in
-    let st = k1 .before .before in
+    let st = n1 .before .before .before in
     let a = st .args in
     let way = readWay (now (a .flags)) in
     let law = read-lawful (now (a .flags)) in
-    (part-falls (twoWords (a .row) (a .d) 0) (childRow (a .row) (Binary (a .d)) 1) (k2 .child-row2 .ensures) (at-later (word (childRow (a .row) (Binary (a .d)) 0) 0) ((word (childRow (a .row) (Binary (a .d)) 1) 0) ∷ []) _ (at-first (word (childRow (a .row) (Binary (a .d)) 1) 0) [])) (st .pre .0), found-first way law (k2 .child-row2 .ensures) (found-asks way law (k1 .child-row .ensures) (n1 .node-walk .ensures) (was-walked _ (t1 .taken-apart .ensures) (o1 .c1 .given .1)) (st .pre .1)))
+    (part-falls (word (a .row0) 0 ∷ word (a .row1) 0 ∷ []) (a .row1) refl (at-later (word (a .row0) 0) (word (a .row1) 0 ∷ []) _ (at-first (word (a .row1) 0) [])) (st .pre .0), found-first way law refl (found-asks way law refl (n1 .node-walk .ensures) (was-walked _ (t1 .taken-apart .ensures) (o1 .c1 .given .1)) (st .pre .1)))
 
 two-walk-returns-2 : (t : ℕ) → two-walk-lts.Need-returns-2 (two-claims t) (two-walk-at t) two-walk.Post
 two-walk-returns-2 t c =
-    let k2 = c .before .before in
-    let o1 = k2 .before .before in
+    let o1 = c .before .before .before in
     let t1 = o1 .before .before in
     let n1 = t1 .before in
-    let k1 = n1 .before .before in
-    let st = k1 .before .before in
+    let st = n1 .before .before .before in
     let a = st .args in
     let way = readWay (now (a .flags)) in
     let law = read-lawful (now (a .flags)) in
-    found-rest way law (k1 .child-row .ensures) (n1 .node-walk .ensures) (was-walked _ (t1 .taken-apart .ensures) (o1 .c1 .given .1)) (as-found way law (k2 .child-row2 .ensures) (c .node-walk2 .ensures))
+    found-rest way law refl (n1 .node-walk .ensures) (was-walked _ (t1 .taken-apart .ensures) (o1 .c1 .given .1)) (c .node-walk2 .ensures)
 
 pub +children-walk+four-walk+node-walk+three-walk+two-walk-spec : {M : Type 1} → statement M
 +children-walk+four-walk+node-walk+three-walk+two-walk-spec =
@@ -726,6 +729,8 @@ pub +children-walk+four-walk+node-walk+three-walk+two-walk-spec : {M : Type 1} �
     (children-walk-four-walk-requires t)
     (children-walk-enum-known-d t)
     (children-walk-kept-under-requires-2 t)
+    (children-walk-half-row-requires t)
+    (children-walk-half-row-requires-2 t)
     (children-walk-two-walk-requires t)
     (children-walk-enum-known-d-2 t)
     (children-walk-kept-under-requires-3 t)
@@ -806,12 +811,10 @@ pub +children-walk+four-walk+node-walk+three-walk+two-walk-spec : {M : Type 1} �
     λ t. two-walk-lts.spec (two-claims t)
     (two-walk-at t)
     two-walk.Post
-    (two-walk-child-row-requires t)
     (two-walk-node-walk-requires t)
     (two-walk-taken-apart-requires t)
     (two-walk-enum-known-c1 t)
     (two-walk-enum-told t)
     (two-walk-returns t)
-    (two-walk-child-row-requires-2 t)
     (two-walk-node-walk-requires-2 t)
     (two-walk-returns-2 t)
