@@ -1,4 +1,4 @@
-//! The classes of units that are timed, 256 different units in each.
+//! The classes of units that are timed, 256 units in each.
 
 use samples::{settings, trees, Rng, Style};
 
@@ -102,7 +102,8 @@ fn full() -> Class {
     })
 }
 
-/// Units that are all blocks of 4 by 4 by quad splits alone: 341 flags of 1.
+/// Units that are all blocks of 4 by 4 by quad splits alone: 341 flags of 1. They differ in their
+/// address only.
 fn quads() -> Class {
     let mut rng = Rng::new(5);
     class("quads", "1,024 rows by quads", || {

@@ -29,7 +29,9 @@ instructions of the calls:
   valgrind --tool=callgrind --callgrind-out-file=/dev/null \\
       --toggle-collect='*measured_calls*' bench callgrind engine-read 1024 256
 
-and divide the figure `Collected` by CALLS. The loop itself adds about ten instructions a call.
+and divide the figure `Collected` by CALLS. The loop itself adds about twenty instructions a call.
+Valgrind counts one instruction for each byte that is cleared; callgrind_annotate shows them under
+memset, so that they can be taken off.
 ";
 
 fn main() -> ExitCode {

@@ -6,10 +6,10 @@ use crate::classes::{self, Class};
 use crate::work::{call, Buffer, Call, Side, Way};
 
 /// Rounds, of which the best counts.
-const ROUNDS: usize = 15;
+const ROUNDS: usize = 40;
 
 /// The least time of one side in a round, so that the clock's own step does not count.
-const ROUND_TIME: Duration = Duration::from_millis(20);
+const ROUND_TIME: Duration = Duration::from_millis(5);
 
 /// Prints a line for each class and way.
 pub fn print_table() {

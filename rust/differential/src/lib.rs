@@ -1,10 +1,11 @@
-//! Compares the engine with two unproved decoders, call by call: `h266`, written from the standard's
-//! text, and `tuned`.
+//! Compares the engine with two unproved decoders, call by call: `h266`, written from the text of
+//! the standard, and `tuned`.
 //!
-//! Each comparison makes the same call on all three sides, with equal buffers of random bytes between
-//! guard bytes, and asserts that the answers, the buffers, the guards and the session's address due
-//! are equal afterwards. The calls come from random legal trees, damaged flags and tables, broken
-//! settings, lent buffers of every kind of length, whole sessions, and small units in full.
+//! Each comparison makes the same call on all three sides, with equal buffers of random bytes
+//! between guard bytes, and asserts that the answers, the buffers, the guards and the session's
+//! address due are equal afterwards. The calls come from random legal trees, damaged flags and
+//! tables, broken settings, lent buffers of every kind of length, whole sessions, and small units
+//! in full.
 //!
 //! ```
 //! use differential::{calls, Engine};

@@ -101,8 +101,8 @@ fn say(allowed: &Allowed, split: Split, flags: &mut Vec<u8>) {
     }
 }
 
-/// The rows of a tree of this unit that breaks the rules at some nodes: a split that is not open, or
-/// none over an edge. By chance the tree may be legal.
+/// The rows of a tree of this unit that breaks the rules at some nodes: a split that is not open,
+/// or none over an edge. By chance the tree may be legal.
 ///
 /// # Panics
 ///

@@ -116,8 +116,8 @@ impl Reader<'_> {
         Ok(())
     }
 
-    /// coding_tree( ) inside the picture; so are all nodes below. Coding units are met here, so that
-    /// only splits cost a call.
+    /// coding_tree( ) inside the picture; so are all nodes below. Coding units are met here, so
+    /// that only splits cost a call.
     #[inline(always)]
     fn inner_tree(&mut self, block: Block, usable: Open) -> Result<(), Stop> {
         let open = self.inner.open(block, usable);
