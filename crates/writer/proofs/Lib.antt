@@ -10,4 +10,5 @@ pub mod RowWords
 pub mod Node
 pub mod Numbers
 pub mod Found
+pub mod Halves
 pub mod Alone

@@ -1,12 +1,15 @@
 -- The rows of a table one by one, and what is found of them.
-use Prim.Native.Nat.{ℕ, suc, _+_, _-_, _*_, _/_, _≤_}
-use mathlib.Core.Path.{_≡_, refl}
+use Prim.Native.Nat.{ℕ, suc, _+_, _-_, _*_, _/_, _≤_, _<_}
+use mathlib.Core.Path.{_≡_, refl, sym, subst, _∙_}
 use mathlib.Core.Bool.{Bool, true, false, _&&_}
 use mathlib.Core.List.{List, _∷_}
 use lib.Dec.{ltb, eqb}
 use lib.ListN.{length}
 use native.Mathlib.Omega.{arith}
+use borrow.Author.Tests.{lt-ltb, le-ltb, eq-eqb, ne-eqb}
+use Rattle.sides.proofs.Bools.{and-intro, and-no}
 use Rattle.tree.specs.declared.Direction.{Direction}
+use Rattle.tree.specs.declared.Direction.the-variants.{Horizontal, Vertical}
 use Rattle.tree.specs.Splits.{pick}
 use Rattle.tree.specs.Rows.{Row, rowAt, rowsAt}
 use Rattle.tree.specs.Back.{rightEnd, bottomEnd, reach}
@@ -34,10 +37,10 @@ on-next bytes i h = next bytes i (i + 8) (length bytes / 8 - i / 8) (length byte
 -- ---- a row at a corner, or past a line
 
 module _ (d : Direction) (px py : ℕ) where
-  abbrev pub endsThere : Row → Bool
+  abbrev endsThere : Row → Bool
   endsThere r = eqb (rightEnd r) px && eqb (bottomEnd r) py
 
-  abbrev pub goesPast : Row → Bool
+  abbrev goesPast : Row → Bool
   goesPast r = pick d (ltb py (bottomEnd r)) (ltb px (rightEnd r))
 
   reach-there : (r : Row) (rows : List Row) → endsThere r ≡ true → reach d px py (r ∷ rows) ≡ true
@@ -52,17 +55,58 @@ module _ (d : Direction) (px py : ℕ) where
   unfolding reach
   reach-later r rows e p = rw (e, p)
 
-  module _ (bytes : List ℕ) (i : ℕ) where
-    pub on-end : length bytes ≤ i → reach d px py (rowsOn bytes i) ≡ false
-    unfolding reach rowsAt
-    on-end h = let e : length bytes / 8 - i / 8 ≡ 0 = omega arith in rw e
+-- ---- the same by a row's end in the direction of the cut, and by its other end
 
-    module _ (h : i + 8 ≤ length bytes) where
-      pub on-there : endsThere (rowAt bytes i) ≡ true → reach d px py (rowsOn bytes i) ≡ true
-      on-there e = rw (on-next bytes i h) (reach-there _ _ e)
+abbrev endAlong : Direction → Row → ℕ
+endAlong d r = pick d (bottomEnd r) (rightEnd r)
 
-      pub on-past : endsThere (rowAt bytes i) ≡ false → goesPast (rowAt bytes i) ≡ true → reach d px py (rowsOn bytes i) ≡ false
-      on-past e p = rw (on-next bytes i h) (reach-past _ _ e p)
+abbrev endAcross : Direction → Row → ℕ
+endAcross d r = pick d (rightEnd r) (bottomEnd r)
 
-      pub on-later : endsThere (rowAt bytes i) ≡ false → goesPast (rowAt bytes i) ≡ false → reach d px py (rowsOn bytes i) ≡ reach d px py (rowsOn bytes (i + 8))
-      on-later e p = rw (on-next bytes i h) (reach-later _ _ e p)
+-- whether the rows reach the corner at a line and at another end
+abbrev pub reachLine : Direction → ℕ → ℕ → List Row → Bool
+reachLine d line other rows = reach d (pick d other line) (pick d line other) rows
+
+module _ (line other : ℕ) (r : Row) where
+  at-corner : (d : Direction) → endAlong d r ≡ line → endAcross d r ≡ other → endsThere d (pick d other line) (pick d line other) r ≡ true
+  at-corner Horizontal e f = and-intro _ _ (eq-eqb (rightEnd r) other f) (eq-eqb (bottomEnd r) line e)
+  at-corner Vertical e f = and-intro _ _ (eq-eqb (rightEnd r) line e) (eq-eqb (bottomEnd r) other f)
+
+  off-line : (d : Direction) → ¬ (endAlong d r ≡ line) → endsThere d (pick d other line) (pick d line other) r ≡ false
+  off-line Horizontal n = and-no (eqb (rightEnd r) other) _ (ne-eqb (bottomEnd r) line n)
+  off-line Vertical n = rw (ne-eqb (rightEnd r) line n)
+
+  aside : (d : Direction) → ¬ (endAcross d r ≡ other) → endsThere d (pick d other line) (pick d line other) r ≡ false
+  aside Horizontal n = rw (ne-eqb (rightEnd r) other n)
+  aside Vertical n = and-no (eqb (rightEnd r) line) _ (ne-eqb (bottomEnd r) other n)
+
+  past-line : (d : Direction) → line < endAlong d r → goesPast d (pick d other line) (pick d line other) r ≡ true
+  past-line Horizontal h = lt-ltb line (bottomEnd r) h
+  past-line Vertical h = lt-ltb line (rightEnd r) h
+
+  not-past : (d : Direction) → endAlong d r ≤ line → goesPast d (pick d other line) (pick d line other) r ≡ false
+  not-past Horizontal h = le-ltb line (bottomEnd r) h
+  not-past Vertical h = le-ltb line (rightEnd r) h
+
+-- ---- and for the row at a byte, whose ends the code has found
+
+module _ (d : Direction) (line other : ℕ) (bytes : List ℕ) (i : ℕ) where
+  pub on-end : length bytes ≤ i → reachLine d line other (rowsOn bytes i) ≡ false
+  unfolding reach rowsAt
+  on-end h = let e : length bytes / 8 - i / 8 ≡ 0 = omega arith in rw e
+
+  module _ (h : i + 8 ≤ length bytes) {a : ℕ} (e : a ≡ endAlong d (rowAt bytes i)) where
+    pub on-past : line < a → reachLine d line other (rowsOn bytes i) ≡ false
+    on-past p =
+        let q : line < endAlong d (rowAt bytes i) = subst (λ (x : ℕ). line < x) e p in
+        rw (on-next bytes i h) (reach-past d _ _ _ _ (off-line line other (rowAt bytes i) d (λ s. omega arith)) (past-line line other (rowAt bytes i) d q))
+
+    pub on-short : a ≤ line → ¬ (a ≡ line) → reachLine d line other (rowsOn bytes i) ≡ reachLine d line other (rowsOn bytes (i + 8))
+    on-short p n = rw (on-next bytes i h) (reach-later d _ _ _ _ (off-line line other (rowAt bytes i) d (λ s. n (e ∙ s))) (not-past line other (rowAt bytes i) d (subst (λ (x : ℕ). x ≤ line) e p)))
+
+    module _ (p : a ≡ line) {b : ℕ} (f : b ≡ endAcross d (rowAt bytes i)) where
+      pub on-there : b ≡ other → reachLine d line other (rowsOn bytes i) ≡ true
+      on-there q = rw (on-next bytes i h) (reach-there d _ _ _ _ (at-corner line other (rowAt bytes i) d (sym e ∙ p) (sym f ∙ q)))
+
+      pub on-aside : ¬ (b ≡ other) → reachLine d line other (rowsOn bytes i) ≡ reachLine d line other (rowsOn bytes (i + 8))
+      on-aside n = rw (on-next bytes i h) (reach-later d _ _ _ _ (aside line other (rowAt bytes i) d (λ s. n (f ∙ s))) (not-past line other (rowAt bytes i) d (omega arith)))

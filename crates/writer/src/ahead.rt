@@ -43,30 +43,44 @@ fn bottom_end(rows: &[u8], i: usize) -> u32
     end_from(rows, i + 2, i + 5)
 }
 
-// Whether a row is past the line of a cut: at the bottom of a horizontal one, at the right of a vertical one.
-fn past(d: Direction, right: bool, bottom: bool) -> bool
-    ensures { λ r. ⌜ r ≡ pick d bottom right ⌝ }
+// Where a row ends in the direction that a cut divides: its bottom for a horizontal cut, its right for a vertical one.
+fn end_along(rows: &[u8], i: usize, d: Direction) -> u32
+    requires { ⌜ i + 8 ≤ length (now rows) ⌝ }
+    ensures { λ r. ⌜ r ≡ pick d (Back.bottomEnd (rowAt (now (rows .entry)) i)) (Back.rightEnd (rowAt (now (rows .entry)) i)) ⌝ }
 {
     match d {
-        Direction::Horizontal => bottom,
-        Direction::Vertical => right,
+        Direction::Horizontal => bottom_end(rows, i),
+        Direction::Vertical => right_end(rows, i),
+    }
+}
+
+// And in the other direction.
+fn end_across(rows: &[u8], i: usize, d: Direction) -> u32
+    requires { ⌜ i + 8 ≤ length (now rows) ⌝ }
+    ensures { λ r. ⌜ r ≡ pick d (Back.rightEnd (rowAt (now (rows .entry)) i)) (Back.bottomEnd (rowAt (now (rows .entry)) i)) ⌝ }
+{
+    match d {
+        Direction::Horizontal => right_end(rows, i),
+        Direction::Vertical => bottom_end(rows, i),
     }
 }
 
 // Whether some row, from a row on, ends at a corner before any row reaches past the line that a cut of the direction draws there.
-fn reach(rows: &[u8], at: usize, d: Direction, px: u32, py: u32) -> bool
+// The corner is given by the line and by the other end; a row's other end is of interest only where the row ends at the line.
+fn reach(rows: &[u8], at: usize, d: Direction, line: u32, other: u32) -> bool
     requires { ⌜ (at * 8 ≤ length (now rows)) × (length (now rows) % 8 ≡ 0) ⌝ }
-    ensures { λ r. ⌜ r ≡ Back.reach d px py (rowsFrom (now (rows .entry)) at) ⌝ }
+    ensures { λ r. ⌜ r ≡ Back.reach d (pick d other line) (pick d line other) (rowsFrom (now (rows .entry)) at) ⌝ }
 {
     let mut i = at * 8;
     while i < rows.len() {
-        let right = right_end(rows, i);
-        let bottom = bottom_end(rows, i);
-        if (right == px) & (bottom == py) {
-            return true;
-        }
-        if past(d, px < right, py < bottom) {
+        let end = end_along(rows, i, d);
+        if line < end {
             return false;
+        }
+        if end == line {
+            if end_across(rows, i, d) == other {
+                return true;
+            }
         }
         i += 8;
     }
@@ -82,13 +96,13 @@ fn cut_ahead(row: u64, rows: &[u8], at: usize) -> Decision
     let y = nodes::top(row);
     let w = nodes::width(row);
     let h = nodes::height(row);
-    if reach(rows, at, Direction::Horizontal, x + w, y + h / 4 * 2) {
+    if reach(rows, at, Direction::Horizontal, y + h / 4 * 2, x + w) {
         return Decision::Binary(Direction::Horizontal);
     }
     if reach(rows, at, Direction::Vertical, x + w / 4 * 2, y + h) {
         return Decision::Binary(Direction::Vertical);
     }
-    if reach(rows, at, Direction::Horizontal, x + w, y + h / 4) {
+    if reach(rows, at, Direction::Horizontal, y + h / 4, x + w) {
         return Decision::Ternary(Direction::Horizontal);
     }
     Decision::Ternary(Direction::Vertical)

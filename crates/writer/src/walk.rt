@@ -14,7 +14,7 @@ ghost use mathlib.Core.Path.{_≡_};
 ghost use mathlib.Core.List.{[], _∷_};
 ghost use Prim.Native.Nat.{_%_};
 ghost use lib.ListN.{length};
-ghost use Rattle.nodes.specs.Stands.{word, fourWords, twoWords, threeWords, kidWords};
+ghost use Rattle.nodes.specs.Stands.{word, fourWords, threeWords, kidWords};
 ghost use Rattle.nodes.specs.Walks.{Asked, Walked};
 ghost use Rattle.nodes.specs.Words.{openIn};
 ghost use Rattle.writer.specs.Ahead.{backWay};
@@ -93,7 +93,9 @@ pub(crate) fn children_back(
         }
         Decision::Binary(v) => {
             let k = nodes::kept_under(u, row, kept, out, d, 0);
-            two_back(u, rows, flags, c, row, v, k)
+            let row0 = nodes::half_row(row, v, 0);
+            let row1 = nodes::half_row(row, v, 1);
+            two_back(u, rows, flags, c, row0, row1, k)
         }
         Decision::Ternary(v) => {
             let k = nodes::kept_under(u, row, kept, out, d, 0);
@@ -140,19 +142,17 @@ pub(crate) fn two_back(
     rows: &[u8],
     flags: &mut Scratch,
     c: u64,
-    row: u64,
-    d: Direction,
+    row0: u64,
+    row1: u64,
     kept: u32,
 ) -> u64
-    requires { ⌜ Asked (backWay (now rows)) (now u) c (twoWords row d kept) × (length (now rows) % 8 ≡ 0) ⌝ }
-    ensures { λ r. ⌜ Walked (backWay (now (rows .entry))) (now (u .entry)) c (twoWords row d kept) (now (flags .entry)) r (now (flags .exit)) ⌝ }
+    requires { ⌜ Asked (backWay (now rows)) (now u) c (word row0 kept ∷ word row1 kept ∷ []) × (length (now rows) % 8 ≡ 0) ⌝ }
+    ensures { λ r. ⌜ Walked (backWay (now (rows .entry))) (now (u .entry)) c (word row0 kept ∷ word row1 kept ∷ []) (now (flags .entry)) r (now (flags .exit)) ⌝ }
 {
-    let row0 = nodes::child_row(row, Decision::Binary(d), 0);
     let first = node_back(u, rows, flags, c, row0, kept);
     let Child::Walked(c1) = taken_apart(first) else {
         return first;
     };
-    let row1 = nodes::child_row(row, Decision::Binary(d), 1);
     node_back(u, rows, flags, c1, row1, kept)
 }
 

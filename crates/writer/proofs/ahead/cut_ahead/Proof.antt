@@ -16,11 +16,11 @@ width-requires c κs = search needs
 height-requires : tie.Need-height-requires
 height-requires c κs = search needs
 
-add-reach : tie.Need-add-reach
-add-reach c = search needs
-
 mul-reach : tie.Need-mul-reach
 mul-reach c = search needs
+
+add-reach : tie.Need-add-reach
+add-reach c = search needs
 
 add-reach-2 : tie.Need-add-reach-2
 add-reach-2 c = search needs
@@ -90,8 +90,8 @@ cut-ahead-spec =
     top-requires
     width-requires
     height-requires
-    add-reach
     mul-reach
+    add-reach
     add-reach-2
     reach-requires
     returns

@@ -1,19 +1,19 @@
 use Prim.Native.Nat.{_-_, _%_, _≤_}
 use mathlib.Core.Path.{_≡_, sym, _∙_}
+use mathlib.Core.Logic.{⊎-elim}
 use native.Mathlib.Omega.{arith}
 use lib.ListN.{length}
 use denote.Ref.{now}
-use Rattle.tree.specs.Back.{reach}
 use Rattle.writer.specs.Ahead.{rowsFrom}
-use Rattle.writer.proofs.NextRows.{rowsOn, on-first, on-end, on-there, on-past, on-later}
+use Rattle.writer.proofs.NextRows.{rowsOn, reachLine, on-first, on-end, on-past, on-short, on-there, on-aside}
 use Rattle.writer.proofs.ahead.reach.Statement.{statement}
 use Rattle.writer.proofs.ahead.reach.Tie as tie
 
 abbrev Inv-loop : tie.InvT-loop
-Inv-loop rows at d px py i₀ i = (i ≤ length rows) × (i % 8 ≡ 0) × (reach d px py (rowsFrom rows at) ≡ reach d px py (rowsOn rows i))
+Inv-loop rows at d line other i₀ i = (i ≤ length rows) × (i % 8 ≡ 0) × (reachLine d line other (rowsFrom rows at) ≡ reachLine d line other (rowsOn rows i))
 
 abbrev μ-loop : tie.MeasureT-loop
-μ-loop rows at d px py i₀ i = length rows - i
+μ-loop rows at d line other i₀ i = length rows - i
 
 mul-i : tie.Need-mul-i Inv-loop μ-loop
 mul-i c = omega arith
@@ -21,32 +21,25 @@ mul-i c = omega arith
 loop-holds : tie.Need-loop-holds Inv-loop μ-loop
 loop-holds c = (c .before .pre .0, omega arith, rw (on-first (now (c .before .args .rows)) (c .before .args .at)))
 
-right-end-requires : tie.Need-right-end-requires Inv-loop μ-loop
-right-end-requires c κs = omega arith
-
-bottom-end-requires : tie.Need-bottom-end-requires Inv-loop μ-loop
-bottom-end-requires c κs = omega arith
+end-along-requires : tie.Need-end-along-requires Inv-loop μ-loop
+end-along-requires c κs = omega arith
 
 returns : tie.Need-returns Inv-loop μ-loop
 returns c =
-    let b = c .before in
-    let l = b .before .before .before in
-    sym
-    (l .loop .inv .2
-    ∙ on-there _ _ _ _ _ (omega arith) (rw (b .before .right-end .ensures, b .bottom-end .ensures) at (c .if1 .taken)))
+    let l = c .before .before .before in
+    sym (l .loop .inv .2 ∙ on-past _ _ _ _ _ (omega arith) (c .before .end-along .ensures) (c .if1 .taken))
 
-past-requires : tie.Need-past-requires Inv-loop μ-loop
-past-requires c κs = omega arith
+end-across-requires : tie.Need-end-across-requires Inv-loop μ-loop
+end-across-requires c κs = omega arith
 
 returns-2 : tie.Need-returns-2 Inv-loop μ-loop
 returns-2 c =
-    let p = c .before in
-    let b = p .before .before in
-    let l = b .before .before .before in
+    let x = c .before in
+    let e = x .before .before .before in
+    let l = e .before .before in
     sym
     (l .loop .inv .2
-    ∙ on-past _ _ _ _ _ (omega arith) (rw (b .before .right-end .ensures, b .bottom-end .ensures) at (p .before .if1 .left))
-    (rw (p .past .ensures, b .before .right-end .ensures, b .bottom-end .ensures) at (c .if2 .taken)))
+    ∙ on-there _ _ _ _ _ (omega arith) (e .end-along .ensures) (x .before .if2 .taken) (x .end-across .ensures) (c .if3 .taken))
 
 add-i : tie.Need-add-i Inv-loop μ-loop
 add-i c = omega arith
@@ -56,14 +49,15 @@ loop-less c = omega arith
 
 loop-again : tie.Need-loop-again Inv-loop μ-loop
 loop-again c =
-    let p = c .before in
-    let b = p .before .before in
-    let l = b .before .before .before in (
+    let e = c .before .before in
+    let l = e .before .before in (
       omega arith,
       omega arith,
       l .loop .inv .2
-          ∙ on-later _ _ _ _ _ (omega arith) (rw (b .before .right-end .ensures, b .bottom-end .ensures) at (p .before .if1 .left))
-          (rw (p .past .ensures, b .before .right-end .ensures, b .bottom-end .ensures) at (c .if2 .left)),
+          ∙ ⊎-elim
+          (λ x. on-aside _ _ _ _ _ (omega arith) (e .end-along .ensures) (x .0 .taken) (x .1 .ensures) (x .2 .left))
+          (λ x. on-short _ _ _ _ _ (omega arith) (e .end-along .ensures) (c .before .if1 .left) (x .left))
+          (c .if2 .came),
     )
 
 returns-3 : tie.Need-returns-3 Inv-loop μ-loop
@@ -79,10 +73,9 @@ reach-spec =
     μ-loop
     mul-i
     loop-holds
-    right-end-requires
-    bottom-end-requires
+    end-along-requires
     returns
-    past-requires
+    end-across-requires
     returns-2
     add-i
     loop-less

@@ -6,20 +6,21 @@ use native.Mathlib.Omega.{arith}
 use lib.ListN.{length}
 use lib.Seq.{sets}
 use denote.Ref.{now}
-use Rattle.tree.specs.declared.Decision.the-variants.{Quad, Binary, Ternary}
+use Rattle.tree.specs.declared.Decision.the-variants.{Quad, Ternary}
 use Rattle.tree.specs.Flags.{flagsFor}
 use Rattle.nodes.specs.State.{placeOf, countOf, going}
 use Rattle.nodes.specs.Words.{reachesOut, childRow}
-use Rattle.nodes.specs.Stands.{word, fourWords, twoWords, threeWords, kidWords}
+use Rattle.nodes.specs.Stands.{word, fourWords, threeWords, kidWords}
 use Rattle.nodes.specs.Walks.{Asked, Walked}
 use Rattle.nodes.proofs.Apart.{was-walked, was-refused}
 use Rattle.nodes.proofs.Chains.{going-is}
-use Rattle.nodes.proofs.KidWords.{split-tag, no-words, four-words, two-words, three-words, four-areas, two-areas, three-areas, kids-areas-same, kids-fall, node-falls}
+use Rattle.nodes.proofs.KidWords.{split-tag, no-words, four-words, three-words, four-areas, three-areas, kids-areas-same, kids-fall, node-falls}
 use Rattle.nodes.proofs.Lists.{none-walked, found-first, as-found, found-stop, found-asks, found-rest}
 use Rattle.nodes.proofs.Measure.{areaIn, areasIn, at-first, at-first-of, at-later, before-more, part-falls}
 use Rattle.writer.specs.Ahead.{backWay}
 use Rattle.laws.proofs.BackBounds.{flags-four}
 use Rattle.writer.proofs.Found.{more-is, none-is, decision-is, same-is, other-is, eight-is, allows-is, flags-is}
+use Rattle.writer.proofs.Halves.{halves, half-words, half-areas}
 use Rattle.writer.proofs.Way.{back-lawful}
 use Rattle.writer.proofs.Numbers.{rightsAt, walked-gone, asked-small, out-is, walked-none, walked-closed, walked-leaf, walked-other, asked-kids, kids-areas-in, walked-kids}
 use borrow.Author.Needs.{needs}
@@ -41,6 +42,7 @@ use Rattle.writer.proofs.walk.two_back.Reads as two-back
 use Rattle.writer.proofs.walk.two_back.Kinds as two-back-kinds
 use Rattle.writer.proofs.walk.+children_back+four_back+node_back+three_back+two_back.Lts-two_back as two-back-lts
 use Rattle.nodes.proofs.child_row.Reads as child-row-reads
+use Rattle.nodes.proofs.half_row.Reads as half-row-reads
 use Rattle.nodes.proofs.kept_under.Reads as kept-under-reads
 use Rattle.writer.proofs.walk.open_splits.Reads as open-splits-reads
 use Rattle.nodes.proofs.out.Reads as out-reads
@@ -70,7 +72,7 @@ abbrev μ-three-back : Measures 3 three-back-kinds.ps ℕ
 μ-three-back κs a = areasIn (threeWords (a .1 .1 .1 .1 .0) (a .1 .1 .1 .1 .1 .0) 0 0) * 4 + 1
 
 abbrev μ-two-back : Measures 3 two-back-kinds.ps ℕ
-μ-two-back κs a = areasIn (twoWords (a .1 .1 .1 .1 .0) (a .1 .1 .1 .1 .1 .0) 0) * 4 + 1
+μ-two-back κs a = areasIn (halves (a .1 .1 .1 .1 .0) (a .1 .1 .1 .1 .1 .0) 0) * 4 + 1
 
 abbrev children-back-at : ℕ → In 3 children-back-kinds.ps
 children-back-at t =
@@ -115,7 +117,7 @@ two-back-below t =
 
 -- what the functions that each member calls ask and give
 abbrev children-claims : ℕ → children-back-lts.Claims
-children-claims t = (kept-under-reads.Asked, kept-under-reads.Learnt, four-back-below t, four-back.Post, two-back-below t, two-back.Post, three-back-below t, three-back.Post)
+children-claims t = (kept-under-reads.Asked, kept-under-reads.Learnt, four-back-below t, four-back.Post, half-row-reads.Asked, half-row-reads.Learnt, two-back-below t, two-back.Post, three-back-below t, three-back.Post)
 
 abbrev four-claims : ℕ → four-back-lts.Claims
 four-claims t = (child-row-reads.Asked, child-row-reads.Learnt, node-back-below t, node-back.Post, taken-apart-reads.Asked, taken-apart-reads.Learnt)
@@ -127,7 +129,7 @@ abbrev three-claims : ℕ → three-back-lts.Claims
 three-claims t = (child-row-reads.Asked, child-row-reads.Learnt, node-back-below t, node-back.Post, taken-apart-reads.Asked, taken-apart-reads.Learnt)
 
 abbrev two-claims : ℕ → two-back-lts.Claims
-two-claims t = (child-row-reads.Asked, child-row-reads.Learnt, node-back-below t, node-back.Post, taken-apart-reads.Asked, taken-apart-reads.Learnt)
+two-claims t = (node-back-below t, node-back.Post, taken-apart-reads.Asked, taken-apart-reads.Learnt)
 
 children-back-enum-told : (t : ℕ) → children-back-lts.Need-enum-told (children-claims t) (children-back-at t) children-back.Post
 children-back-enum-told t c = search needs
@@ -156,16 +158,24 @@ children-back-enum-known-d t c = search needs
 children-back-kept-under-requires-2 : (t : ℕ) → children-back-lts.Need-kept-under-requires-2 (children-claims t) (children-back-at t) children-back.Post
 children-back-kept-under-requires-2 t c κs = search needs
 
+children-back-half-row-requires : (t : ℕ) → children-back-lts.Need-half-row-requires (children-claims t) (children-back-at t) children-back.Post
+children-back-half-row-requires t c κs = search needs
+
+children-back-half-row-requires-2 : (t : ℕ) → children-back-lts.Need-half-row-requires-2 (children-claims t) (children-back-at t) children-back.Post
+children-back-half-row-requires-2 t c κs = search needs
+
 children-back-two-back-requires : (t : ℕ) → children-back-lts.Need-two-back-requires (children-claims t) (children-back-at t) children-back.Post
 children-back-two-back-requires t c κs =
-    let k = c .before in
+    let h1 = c .before in
+    let h0 = h1 .before in
+    let k = h0 .before in
     let d = k .before .before in
     let st = d .before .before .before in
     let a = st .args in
     let way = backWay (now (a .rows)) in
     let e = d .d .given .1 in (
-      kids-fall (two-areas (now (a .u)) (a .row) _ e) (st .pre .0),
-      (subst (λ ws. Asked way (now (a .u)) (a .c) ws) (sym (two-words (now (a .u)) (a .row) (a .kept) (a .out) _ e (k .kept-under2 .ensures))) (st .pre .1 .0), st .pre .1 .1),
+      kids-fall (half-areas (now (a .u)) (a .row) _ e (h0 .half-row .ensures) (h1 .half-row2 .ensures)) (st .pre .0),
+      (subst (λ ws. Asked way (now (a .u)) (a .c) ws) (sym (half-words (now (a .u)) (a .row) _ e (h0 .half-row .ensures) (h1 .half-row2 .ensures) (a .kept) (a .out) (k .kept-under2 .ensures))) (st .pre .1 .0), st .pre .1 .1),
     )
 
 children-back-enum-known-d-2 : (t : ℕ) → children-back-lts.Need-enum-known-d-2 (children-claims t) (children-back-at t) children-back.Post
@@ -209,13 +219,15 @@ children-back-returns-2 t c =
 
 children-back-returns-3 : (t : ℕ) → children-back-lts.Need-returns-3 (children-claims t) (children-back-at t) children-back.Post
 children-back-returns-3 t c =
-    let k = c .before .before in
+    let h1 = c .before .before in
+    let h0 = h1 .before in
+    let k = h0 .before in
     let d = k .before .before in
     let a = d .before .before .before .args in
     let way = backWay (now (a .rows)) in
     let e = d .d .given .1 in
     subst (λ ws. Walked way (now (a .u)) (a .c) ws (now (a .flags)) (c .two-back .result) (c .two-back .last .1 .1 .0))
-    (two-words (now (a .u)) (a .row) (a .kept) (a .out) _ e (k .kept-under2 .ensures)) (c .two-back .ensures)
+    (half-words (now (a .u)) (a .row) _ e (h0 .half-row .ensures) (h1 .half-row2 .ensures) (a .kept) (a .out) (k .kept-under2 .ensures)) (c .two-back .ensures)
 
 children-back-returns-4 : (t : ℕ) → children-back-lts.Need-returns-4 (children-claims t) (children-back-at t) children-back.Post
 children-back-returns-4 t c =
@@ -820,17 +832,13 @@ three-back-returns-3 t c =
     let law = back-lawful (now (a .rows)) (st .pre .1 .1) in
     found-rest way law (k1 .child-row .ensures) (n1 .node-back .ensures) (was-walked _ (t1 .taken-apart .ensures) (o1 .c1 .given .1)) (found-rest way law (k2 .child-row2 .ensures) (n2 .node-back2 .ensures) (was-walked _ (t2 .taken-apart2 .ensures) (o2 .c2 .given .1)) (as-found way law (k3 .child-row3 .ensures) (c .node-back3 .ensures)))
 
-two-back-child-row-requires : (t : ℕ) → two-back-lts.Need-child-row-requires (two-claims t) (two-back-at t) two-back.Post
-two-back-child-row-requires t c κs = search needs
-
 two-back-node-back-requires : (t : ℕ) → two-back-lts.Need-node-back-requires (two-claims t) (two-back-at t) two-back.Post
 two-back-node-back-requires t c κs =
-    let k1 = c .before in
-    let st = k1 .before .before in
+    let st = c .before .before in
     let a = st .args in
     let way = backWay (now (a .rows)) in
     let law = back-lawful (now (a .rows)) (st .pre .1 .1) in
-    (part-falls (twoWords (a .row) (a .d) 0) (childRow (a .row) (Binary (a .d)) 0) (k1 .child-row .ensures) (at-first-of (word (childRow (a .row) (Binary (a .d)) 0) 0) (word (childRow (a .row) (Binary (a .d)) 1) 0) []) (st .pre .0), (found-first way law (k1 .child-row .ensures) (st .pre .1 .0), st .pre .1 .1))
+    (part-falls (halves (a .row0) (a .row1) 0) (a .row0) refl (at-first-of (word (a .row0) 0) (word (a .row1) 0) []) (st .pre .0), (found-first way law refl (st .pre .1 .0), st .pre .1 .1))
 
 two-back-taken-apart-requires : (t : ℕ) → two-back-lts.Need-taken-apart-requires (two-claims t) (two-back-at t) two-back.Post
 two-back-taken-apart-requires t c κs = search needs
@@ -845,41 +853,31 @@ two-back-returns : (t : ℕ) → two-back-lts.Need-returns (two-claims t) (two-b
 two-back-returns t c =
     let t1 = c .before .before in
     let n1 = t1 .before in
-    let k1 = n1 .before .before in
-    let st = k1 .before .before in
-    let a = st .args in
-    let way = backWay (now (a .rows)) in
-    let law = back-lawful (now (a .rows)) (st .pre .1 .1) in
-    found-stop way law (k1 .child-row .ensures) (n1 .node-back .ensures) (was-refused _ (t1 .taken-apart .ensures) (c .enum-told .given .1))
-
-two-back-child-row-requires-2 : (t : ℕ) → two-back-lts.Need-child-row-requires-2 (two-claims t) (two-back-at t) two-back.Post
-two-back-child-row-requires-2 t c κs = search needs
+    let st = n1 .before .before .before in
+    let way = backWay (now (st .args .rows)) in
+    let law = back-lawful (now (st .args .rows)) (st .pre .1 .1) in
+    found-stop way law refl (n1 .node-back .ensures) (was-refused _ (t1 .taken-apart .ensures) (c .enum-told .given .1))
 
 two-back-node-back-requires-2 : (t : ℕ) → two-back-lts.Need-node-back-requires-2 (two-claims t) (two-back-at t) two-back.Post
 two-back-node-back-requires-2 t c κs =
-    let k2 = c .before in
-    let o1 = k2 .before .before in
+    let o1 = c .before .before in
     let t1 = o1 .before .before in
     let n1 = t1 .before in
-    let k1 = n1 .before .before in
-    let st = k1 .before .before in
+    let st = n1 .before .before .before in
     let a = st .args in
     let way = backWay (now (a .rows)) in
     let law = back-lawful (now (a .rows)) (st .pre .1 .1) in
-    (part-falls (twoWords (a .row) (a .d) 0) (childRow (a .row) (Binary (a .d)) 1) (k2 .child-row2 .ensures) (at-later (word (childRow (a .row) (Binary (a .d)) 0) 0) ((word (childRow (a .row) (Binary (a .d)) 1) 0) ∷ []) _ (at-first (word (childRow (a .row) (Binary (a .d)) 1) 0) [])) (st .pre .0), (found-first way law (k2 .child-row2 .ensures) (found-asks way law (k1 .child-row .ensures) (n1 .node-back .ensures) (was-walked _ (t1 .taken-apart .ensures) (o1 .c1 .given .1)) (st .pre .1 .0)), st .pre .1 .1))
+    (part-falls (halves (a .row0) (a .row1) 0) (a .row1) refl (at-later (word (a .row0) 0) (word (a .row1) 0 ∷ []) _ (at-first (word (a .row1) 0) [])) (st .pre .0), (found-asks way law refl (n1 .node-back .ensures) (was-walked _ (t1 .taken-apart .ensures) (o1 .c1 .given .1)) (st .pre .1 .0), st .pre .1 .1))
 
 two-back-returns-2 : (t : ℕ) → two-back-lts.Need-returns-2 (two-claims t) (two-back-at t) two-back.Post
 two-back-returns-2 t c =
-    let k2 = c .before .before in
-    let o1 = k2 .before .before in
+    let o1 = c .before .before .before in
     let t1 = o1 .before .before in
     let n1 = t1 .before in
-    let k1 = n1 .before .before in
-    let st = k1 .before .before in
-    let a = st .args in
-    let way = backWay (now (a .rows)) in
-    let law = back-lawful (now (a .rows)) (st .pre .1 .1) in
-    found-rest way law (k1 .child-row .ensures) (n1 .node-back .ensures) (was-walked _ (t1 .taken-apart .ensures) (o1 .c1 .given .1)) (as-found way law (k2 .child-row2 .ensures) (c .node-back2 .ensures))
+    let st = n1 .before .before .before in
+    let way = backWay (now (st .args .rows)) in
+    let law = back-lawful (now (st .args .rows)) (st .pre .1 .1) in
+    found-rest way law refl (n1 .node-back .ensures) (was-walked _ (t1 .taken-apart .ensures) (o1 .c1 .given .1)) (c .node-back2 .ensures)
 
 pub +children-back+four-back+node-back+three-back+two-back-spec : {M : Type 1} → statement M
 +children-back+four-back+node-back+three-back+two-back-spec =
@@ -898,6 +896,8 @@ pub +children-back+four-back+node-back+three-back+two-back-spec : {M : Type 1} �
     (children-back-four-back-requires t)
     (children-back-enum-known-d t)
     (children-back-kept-under-requires-2 t)
+    (children-back-half-row-requires t)
+    (children-back-half-row-requires-2 t)
     (children-back-two-back-requires t)
     (children-back-enum-known-d-2 t)
     (children-back-kept-under-requires-3 t)
@@ -981,12 +981,10 @@ pub +children-back+four-back+node-back+three-back+two-back-spec : {M : Type 1} �
     λ t. two-back-lts.spec (two-claims t)
     (two-back-at t)
     two-back.Post
-    (two-back-child-row-requires t)
     (two-back-node-back-requires t)
     (two-back-taken-apart-requires t)
     (two-back-enum-known-c1 t)
     (two-back-enum-told t)
     (two-back-returns t)
-    (two-back-child-row-requires-2 t)
     (two-back-node-back-requires-2 t)
     (two-back-returns-2 t)

@@ -1,0 +1,24 @@
+-- The two parts of a binary split, by the rows that the code has found for them.
+use Prim.Native.Nat.{ℕ}
+use mathlib.Core.Path.{_≡_}
+use mathlib.Core.Bool.{Bool, false}
+use mathlib.Core.List.{List, [], _∷_}
+use Rattle.tree.specs.declared.Direction.{Direction}
+use Rattle.tree.specs.declared.Decision.{Decision}
+use Rattle.tree.specs.declared.Decision.the-variants.{Binary}
+use Rattle.nodes.specs.Words.{childRow, keptUnder}
+use Rattle.nodes.specs.Stands.{Word, word, kidWords}
+use Rattle.nodes.proofs.KidWords.{two-words, two-areas}
+use Rattle.nodes.proofs.Measure.{areasIn}
+
+-- the numbers of the two parts
+abbrev pub halves : ℕ → ℕ → ℕ → List Word
+halves row0 row1 kept = word row0 kept ∷ word row1 kept ∷ []
+
+-- they are those of the children, and have their areas
+module _ (u : List ℕ) (row : ℕ) {d : Decision} (v : Direction) (e : d ≡ Binary v) {row0 row1 : ℕ} (e0 : row0 ≡ childRow row (Binary v) 0) (e1 : row1 ≡ childRow row (Binary v) 1) where
+  pub half-words : (kept : ℕ) (out : Bool) {k : ℕ} → k ≡ keptUnder u row kept out (Binary v) 0 → halves row0 row1 k ≡ kidWords u row kept out d
+  half-words kept out h = rw (e0, e1) (two-words u row kept out v e h)
+
+  pub half-areas : areasIn (halves row0 row1 0) ≡ areasIn (kidWords u row 0 false d)
+  half-areas = rw (e0, e1) (two-areas u row v e)
