@@ -15,4 +15,5 @@ pub mod Lists
 pub mod Apart
 pub mod Measure
 pub mod KidWords
+pub mod Halves
 pub mod Roots

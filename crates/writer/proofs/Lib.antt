@@ -10,5 +10,4 @@ pub mod RowWords
 pub mod Node
 pub mod Numbers
 pub mod Found
-pub mod Halves
 pub mod Alone

@@ -1,5 +1,5 @@
 use Prim.Native.Nat.{ℕ, _+_, _*_, _%_, _<_}
-use mathlib.Core.Path.{_≡_, refl, sym, ap, ap₂, subst, _∙_}
+use mathlib.Core.Path.{refl, sym, ap, subst, _∙_}
 use native.Mathlib.Omega.{arith}
 use mathlib.Core.Bool.{false}
 use mathlib.Core.List.{[], _∷_}
@@ -15,7 +15,8 @@ use Rattle.reader.specs.Walking.{readWay}
 use Rattle.reader.proofs.Way.{read-lawful, none-read}
 use Rattle.nodes.proofs.Apart.{was-walked, was-refused}
 use Rattle.nodes.proofs.Chains.{going-is, stopping-is}
-use Rattle.nodes.proofs.KidWords.{split-tag, no-words, four-words, two-words, three-words, four-areas, two-areas, three-areas, kids-areas-same, kids-fall, node-falls}
+use Rattle.nodes.proofs.Halves.{half-words, half-areas}
+use Rattle.nodes.proofs.KidWords.{split-tag, no-words, four-words, three-words, four-areas, three-areas, kids-areas-same, kids-fall, node-falls}
 use Rattle.reader.proofs.Numbers.{decision-is, walked-gone, refused-small, walked-refused, chosen-small, asked-kids, kids-areas-in, walked-kids, walked-leaf}
 use Rattle.nodes.proofs.Lists.{found-first, as-found, found-stop, found-asks, found-rest}
 use Rattle.nodes.proofs.Measure.{areaIn, areasIn, at-first, at-first-of, at-later, before-more, part-falls}
@@ -126,10 +127,6 @@ three-claims t = (child-row-reads.Asked, child-row-reads.Learnt, node-walk-below
 abbrev two-claims : ℕ → two-walk-lts.Claims
 two-claims t = (node-walk-below t, node-walk.Post, taken-apart-reads.Asked, taken-apart-reads.Learnt)
 
--- the numbers of two parts whose rows were found
-two-found : (k : ℕ) {a b x y : ℕ} → a ≡ x → b ≡ y → (word a k ∷ word b k ∷ []) ≡ (word x k ∷ word y k ∷ [])
-two-found k e f = ap₂ (λ a b. word a k ∷ word b k ∷ []) e f
-
 children-walk-enum-told : (t : ℕ) → children-walk-lts.Need-enum-told (children-claims t) (children-walk-at t) children-walk.Post
 children-walk-enum-told t c = search needs
 
@@ -173,8 +170,8 @@ children-walk-two-walk-requires t c κs =
     let a = st .args in
     let way = readWay (now (a .flags)) in
     let e = d .d .given .1 in (
-      kids-fall (ap areasIn (two-found 0 (h1 .half-row .ensures) (h2 .half-row2 .ensures)) ∙ two-areas (now (a .u)) (a .row) _ e) (st .pre .0),
-      subst (λ ws. Asked way (now (a .u)) (a .c) ws) (sym (two-found (k .kept-under2 .result) (h1 .half-row .ensures) (h2 .half-row2 .ensures) ∙ two-words (now (a .u)) (a .row) (a .kept) (a .out) _ e (k .kept-under2 .ensures))) (st .pre .1),
+      kids-fall (half-areas (now (a .u)) (a .row) _ e (h1 .half-row .ensures) (h2 .half-row2 .ensures)) (st .pre .0),
+      subst (λ ws. Asked way (now (a .u)) (a .c) ws) (sym (half-words (now (a .u)) (a .row) _ e (h1 .half-row .ensures) (h2 .half-row2 .ensures) (a .kept) (a .out) (k .kept-under2 .ensures))) (st .pre .1),
     )
 
 children-walk-enum-known-d-2 : (t : ℕ) → children-walk-lts.Need-enum-known-d-2 (children-claims t) (children-walk-at t) children-walk.Post
@@ -226,7 +223,7 @@ children-walk-returns-3 t c =
     let way = readWay (now (a .flags)) in
     let e = d .d .given .1 in
     subst (λ ws. Walked way (now (a .u)) (a .c) ws (now (a .rows)) (c .two-walk .result) (c .two-walk .last .1 .1 .0))
-    (two-found (k .kept-under2 .result) (h1 .half-row .ensures) (h2 .half-row2 .ensures) ∙ two-words (now (a .u)) (a .row) (a .kept) (a .out) _ e (k .kept-under2 .ensures)) (c .two-walk .ensures)
+    (half-words (now (a .u)) (a .row) _ e (h1 .half-row .ensures) (h2 .half-row2 .ensures) (a .kept) (a .out) (k .kept-under2 .ensures)) (c .two-walk .ensures)
 
 children-walk-returns-4 : (t : ℕ) → children-walk-lts.Need-returns-4 (children-claims t) (children-walk-at t) children-walk.Post
 children-walk-returns-4 t c =

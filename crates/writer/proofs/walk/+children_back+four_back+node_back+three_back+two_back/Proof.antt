@@ -20,7 +20,7 @@ use Rattle.nodes.proofs.Measure.{areaIn, areasIn, at-first, at-first-of, at-lat
 use Rattle.writer.specs.Ahead.{backWay}
 use Rattle.laws.proofs.BackBounds.{flags-four}
 use Rattle.writer.proofs.Found.{more-is, none-is, decision-is, same-is, other-is, eight-is, allows-is, flags-is}
-use Rattle.writer.proofs.Halves.{halves, half-words, half-areas}
+use Rattle.nodes.proofs.Halves.{halves, half-words, half-areas}
 use Rattle.writer.proofs.Way.{back-lawful}
 use Rattle.writer.proofs.Numbers.{rightsAt, walked-gone, asked-small, out-is, walked-none, walked-closed, walked-leaf, walked-other, asked-kids, kids-areas-in, walked-kids}
 use borrow.Author.Needs.{needs}
