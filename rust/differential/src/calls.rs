@@ -19,7 +19,10 @@ struct Unit {
 /// One round: a legal unit in both directions, then the same unit damaged in several ways.
 pub fn round(engine: &mut Engine, rng: &mut Rng) {
     let settings = settings::valid(rng);
-    let unit = legal(engine, rng, settings);
+    assert_eq!(engine.open(&settings), 0);
+    let address = rng.draw() % unit_count(&settings);
+    let style = rng.pick(&Style::ALL);
+    let unit = legal(engine, rng, settings, address, style);
     rooms(engine, rng, &unit);
     damaged_flags(engine, rng, &unit);
     damaged_rows(engine, rng, &unit);
@@ -29,11 +32,14 @@ pub fn round(engine: &mut Engine, rng: &mut Rng) {
     broken_settings(engine, rng, &unit);
 }
 
-/// A random tree, read and turned back on all sides.
-fn legal(engine: &mut Engine, rng: &mut Rng, settings: Settings) -> Unit {
-    assert_eq!(engine.open(&settings), 0);
-    let address = rng.draw() % unit_count(&settings);
-    let style = rng.pick(&Style::ALL);
+/// A random tree of a unit, read and turned back on all sides.
+fn legal(
+    engine: &mut Engine,
+    rng: &mut Rng,
+    settings: Settings,
+    address: u64,
+    style: Style,
+) -> Unit {
     let flags = trees::flags(&settings, address, rng, style);
     let read = engine.read(rng, &settings, address, &flags, ROOM);
     assert_eq!(read.number, 0, "a legal tree was refused: {settings:?} {address} {flags:?}");
@@ -41,6 +47,20 @@ fn legal(engine: &mut Engine, rng: &mut Rng, settings: Settings) -> Unit {
     let back = engine.write(rng, &settings, address, &rows, ROOM);
     assert_eq!(back.written, flags, "the way back gave other flags: {settings:?} {address}");
     Unit { settings, address, flags, rows }
+}
+
+/// A picture of two by two units, the last of which reach so many samples into it: every unit with
+/// trees of every style, its flags and rows also damaged.
+pub fn edges(engine: &mut Engine, rng: &mut Rng, ctu: u32, width: u32, height: u32) {
+    for max_mtt in [0, 3] {
+        let settings = [ctu, 4, 8, max_mtt, ctu, ctu.min(64), ctu + width, ctu + height];
+        for (address, style) in (0..4).flat_map(|a| Style::ALL.map(|style| (a, style))) {
+            let unit = legal(engine, rng, settings, address, style);
+            rooms(engine, rng, &unit);
+            damaged_flags(engine, rng, &unit);
+            damaged_rows(engine, rng, &unit);
+        }
+    }
 }
 
 fn unit_count(settings: &Settings) -> u64 {

@@ -4,8 +4,8 @@
 //! Each comparison makes the same call on all three sides, with equal buffers of random bytes
 //! between guard bytes, and asserts that the answers, the buffers, the guards and the session's
 //! address due are equal afterwards. The calls come from random legal trees, damaged flags and
-//! tables, broken settings, lent buffers of every kind of length, whole sessions, and small units
-//! in full.
+//! tables, every width and height at the edges, broken settings, lent buffers of every kind of
+//! length, whole sessions, and small units in full.
 //!
 //! ```
 //! use differential::{calls, Engine};

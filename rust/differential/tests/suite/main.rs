@@ -22,6 +22,21 @@ fn single_units() {
     assert!(tally.of(Entry::Write, 16) >= 15_000, "{tally}");
 }
 
+/// Every width and height of the units at the right and bottom edge, for every CTU side.
+#[test]
+fn edges() {
+    let (mut engine, mut rng) = (Engine::default(), Rng::new(104));
+    for ctu in [32, 64, 128] {
+        for width in (8..=ctu).step_by(8) {
+            for height in (8..=ctu).step_by(8) {
+                calls::edges(&mut engine, &mut rng, ctu, width, height);
+            }
+        }
+    }
+    println!("{}", engine.tally);
+    assert!(engine.tally.calls() >= 100_000, "{}", engine.tally);
+}
+
 /// Whole pictures, refused calls in between, calls after the end, forged sessions.
 #[test]
 fn pictures() {
