@@ -1,5 +1,5 @@
 // Runs document 01's cases on the proved functions, and prints the tables that they give.
-// The expected output, `stdout`, is written from the paper.
+// The expected output, `stdout`, is written from the paper; for whole pictures, by an independent implementation of it.
 mod pictures;
 
 use libc::STDOUT_FILENO;
