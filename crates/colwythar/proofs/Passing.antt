@@ -3,11 +3,12 @@ use Prim.Native.Nat.{ℕ}
 use mathlib.Core.Path.{_≡_, ap, subst, _∙_}
 use mathlib.Core.List.{List}
 use Rattle.settings.specs.declared.Settings.{Settings}
+use Rattle.settings.specs.Words.{settingsIn}
 use Rattle.unit.specs.declared.Answer.{Answer}
 use Rattle.unit.specs.Answers.{Outcome, Meets}
 use Rattle.picture.specs.declared.Called.{Called}
 use Rattle.picture.specs.Session.{Call, Yields}
-use Rattle.colwythar.specs.Words.{settingsIn, sessionIn, answerWords, Leaves, Moves}
+use Rattle.colwythar.specs.Words.{sessionIn, answerWords, Leaves, Moves}
 
 -- one unit, whichever way: the settings that were read from the words are the words' settings
 pub passed-on : (words : List ℕ) {s : Settings} → s ≡ settingsIn words → (outcome : Settings → Outcome) {a : Answer} {answer left : List ℕ}

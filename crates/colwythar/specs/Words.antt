@@ -2,26 +2,12 @@
 use Prim.Native.Nat.{ℕ}
 use mathlib.Core.Path.{_≡_}
 use mathlib.Core.List.{List, [], _∷_}
-use lib.ListN.{getD}
-use Rattle.settings.specs.declared.Settings.{Settings}
+use Rattle.settings.specs.Words.{settingsIn}
 use Rattle.unit.specs.declared.Answer.{Answer}
 use Rattle.unit.specs.Answers.{numberOf, valueOf, Outcome}
 use Rattle.picture.specs.declared.Session.{Session}
 use Rattle.picture.specs.declared.Opened.{Opened}
 use Rattle.picture.specs.Session.{openedNumber, Call, unitCall, following}
-
--- eight words are the settings, in the order in which document 01 checks them
-abbrev pub settingsIn : List ℕ → Settings
-settingsIn words = record {
-  ctu = getD words 0 0;
-  mincb = getD words 1 0;
-  minqt = getD words 2 0;
-  maxmtt = getD words 3 0;
-  maxbt = getD words 4 0;
-  maxtt = getD words 5 0;
-  width = getD words 6 0;
-  height = getD words 7 0;
-}
 
 -- a session is its settings and the address due
 abbrev pub sessionIn : List ℕ → ℕ → Session

@@ -1,28 +1,13 @@
 // The C interface: the functions of the static library, declared in include/colwythar.h. A slice is a pointer and then
 // a length; settings, answers and the due address are behind pointers.
 use picture::Session;
-use settings::Settings;
 use unit::Answer;
 ghost use mathlib.Core.Path.{_≡_};
+ghost use Rattle.settings.specs.Words.{settingsIn};
 ghost use Rattle.unit.specs.Reader.{readUnit};
 ghost use Rattle.unit.specs.Writer.{writeFlags};
 ghost use Rattle.picture.specs.Session.{opening, call};
-ghost use Rattle.colwythar.specs.Words.{settingsIn, answerWords, openedWords, sessionIn, Leaves, Moves};
-
-fn settings_in(words: &[u32; 8]) -> Settings
-    ensures { λ r. ⌜ r ≡ settingsIn (now (words .entry)) ⌝ }
-{
-    Settings {
-        ctu: words[0],
-        mincb: words[1],
-        minqt: words[2],
-        maxmtt: words[3],
-        maxbt: words[4],
-        maxtt: words[5],
-        width: words[6],
-        height: words[7],
-    }
-}
+ghost use Rattle.colwythar.specs.Words.{answerWords, openedWords, sessionIn, Leaves, Moves};
 
 fn put_answer(a: Answer, answer: &mut [u64; 2])
     ensures { λ _. ⌜ now (answer .exit) ≡ answerWords a ⌝ }
@@ -41,7 +26,8 @@ pub extern "C" fn colwythar_read_unit(
 )
     ensures { λ _. ⌜ Leaves (readUnit (settingsIn (now (settings .entry))) address (now (flags .entry)) (now (rows .entry))) (now (answer .exit)) (now (rows .exit)) ⌝ }
 {
-    let a = reader::read_unit(settings_in(settings), address as usize, flags, rows);
+    let s = settings::from_words(settings);
+    let a = reader::read_unit(s, address as usize, flags, rows);
     put_answer(a, answer);
 }
 
@@ -56,7 +42,8 @@ pub extern "C" fn colwythar_write_flags(
 )
     ensures { λ _. ⌜ Leaves (writeFlags (settingsIn (now (settings .entry))) address (now (rows .entry)) (now (flags .entry))) (now (answer .exit)) (now (flags .exit)) ⌝ }
 {
-    let a = writer::write_flags(settings_in(settings), address as usize, rows, flags);
+    let s = settings::from_words(settings);
+    let a = writer::write_flags(s, address as usize, rows, flags);
     put_answer(a, answer);
 }
 
@@ -65,7 +52,7 @@ pub extern "C" fn colwythar_write_flags(
 pub extern "C" fn colwythar_open(settings: &[u32; 8], answer: &mut [u64; 2])
     ensures { λ _. ⌜ now (answer .exit) ≡ openedWords (opening (settingsIn (now (settings .entry)))) ⌝ }
 {
-    let opened = Session::open(settings_in(settings));
+    let opened = Session::open(settings::from_words(settings));
     *answer = [opened.number() as u64, 0];
 }
 
@@ -83,7 +70,7 @@ pub extern "C" fn colwythar_unit(
     ensures { λ _. ⌜ Moves (sessionIn (now (settings .entry)) (now (due .entry))) (call address (now (flags .entry)) (now (rows .entry))) (now (due .exit)) (now (answer .exit)) (now (rows .exit)) ⌝ }
 {
     let session = Session {
-        settings: settings_in(settings),
+        settings: settings::from_words(settings),
         due: *due as usize,
     };
     let called = session.unit(address as usize, flags, rows);

@@ -1,4 +1,4 @@
--- Lines: what a line is, and the row or the settings that its numbers say.
+-- Lines: what a line is, and the row that its numbers say.
 use Prim.Native.Nat.{ℕ}
 use mathlib.Core.Bool.{Bool, false, cond}
 use mathlib.Core.List.{List}
@@ -6,7 +6,6 @@ use lib.Dec.{leb, eqb}
 use lib.ListN.{getD}
 use Rattle.sides.specs.Side.{exponent, sideFrom}
 use Rattle.tree.specs.Rows as Rows
-use Rattle.settings.specs.declared.Settings.{Settings}
 use Rattle.partition.specs.Text.{emptyWord}
 use Rattle.partition.specs.declared.line.Scan.{Scan}
 use Rattle.partition.specs.declared.line.Form.{Form}
@@ -25,19 +24,6 @@ rowIn n = record {
   eh = exponent (getD n 4 0);
   qt = getD n 5 0;
   mtt = getD n 6 0;
-}
-
--- the settings that a picture line of eight numbers says
-abbrev pub settingsIn : List ℕ → Settings
-settingsIn n = record {
-  ctu = getD n 0 0;
-  mincb = getD n 1 0;
-  minqt = getD n 2 0;
-  maxmtt = getD n 3 0;
-  maxbt = getD n 4 0;
-  maxtt = getD n 5 0;
-  width = getD n 6 0;
-  height = getD n 7 0;
 }
 
 -- a line of which nothing is read

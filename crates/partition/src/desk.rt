@@ -15,8 +15,6 @@ use picture::Opened;
 use picture::Session;
 use settings::Count;
 use settings::Settings;
-ghost use mathlib.Core.Path.{_≡_};
-ghost use Rattle.partition.specs.Lines.{settingsIn};
 
 // The session, once a picture line opened one; whether the file's further lines are passed over; the address and the
 // number of rows of the table that is not ended, 0 where there is none; whether there was a unit line; and how many
@@ -85,21 +83,6 @@ fn stopped_at(d: Desk, line: u64, reason: Reason) -> Desk {
     say_reason(reason);
     end_line();
     d.stop()
-}
-
-fn settings_in(numbers: &[u32; 8]) -> Settings
-    ensures { λ r. ⌜ r ≡ settingsIn (now (numbers .entry)) ⌝ }
-{
-    Settings {
-        ctu: numbers[0],
-        mincb: numbers[1],
-        minqt: numbers[2],
-        maxmtt: numbers[3],
-        maxbt: numbers[4],
-        maxtt: numbers[5],
-        width: numbers[6],
-        height: numbers[7],
-    }
 }
 
 fn say_picture(s: Settings) {
@@ -173,7 +156,11 @@ pub(crate) fn line_ended(
 ) -> Desk {
     match whole(s) {
         Line::Blank => d,
-        Line::Picture => picture_line(tables::ended(d, table), s.line, settings_in(numbers)),
+        Line::Picture => picture_line(
+            tables::ended(d, table),
+            s.line,
+            settings::from_words(numbers),
+        ),
         Line::Unit => unit_line(tables::ended(d, table), s, flags),
         Line::Row => row_line(d, s, numbers, table),
         Line::Bad(reason) => bad_line(d, s, reason, table),

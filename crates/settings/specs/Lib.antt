@@ -1,2 +1,3 @@
 pub mod Checks
 pub mod Units
+pub mod Words

@@ -1,10 +1,12 @@
-// The settings of a picture's coding trees, their check, and the units that they cut the picture into.
+// The settings of a picture's coding trees: from words, their check, and the units that they cut the picture into.
 mod check;
 mod units;
+mod words;
 
 pub use check::refusal;
 pub use units::unit_at;
 pub use units::unit_count;
+pub use words::from_words;
 
 // Document 01's eight numbers, in the order in which they are checked. `maxmtt` is M, the greatest multi-type depth.
 pub struct Settings {

@@ -7,8 +7,8 @@ use Rattle.colwythar.specs.Words.{openedWords}
 use Rattle.colwythar.proofs.colwythar_open.Statement.{statement}
 use Rattle.colwythar.proofs.colwythar_open.Tie as tie
 
-settings-in-requires : tie.Need-settings-in-requires
-settings-in-requires c κs = search needs
+from-words-requires : tie.Need-from-words-requires
+from-words-requires c κs = search needs
 
 open-requires : tie.Need-open-requires
 open-requires c κs = search needs
@@ -23,8 +23,8 @@ returns : tie.Need-returns
 returns c =
     let number = c .before in
     let opened = number .before in
-    ap (λ n. n ∷ 0 ∷ []) (number .number .ensures) ∙ ap (λ o. openedWords o) (opened .open .ensures ∙ ap opening (opened .before .settings-in .ensures))
+    ap (λ n. n ∷ 0 ∷ []) (number .number .ensures) ∙ ap (λ o. openedWords o) (opened .open .ensures ∙ ap opening (opened .before .from-words .ensures))
 
 pub colwythar-open-spec : {M : Type 1} → statement M
 colwythar-open-spec =
-    tie.close (tie.spec settings-in-requires open-requires number-requires cast-t6 returns)
+    tie.close (tie.spec from-words-requires open-requires number-requires cast-t6 returns)

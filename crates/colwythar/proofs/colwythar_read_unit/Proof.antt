@@ -6,8 +6,8 @@ use Rattle.colwythar.proofs.Passing.{passed-on}
 use Rattle.colwythar.proofs.colwythar_read_unit.Statement.{statement}
 use Rattle.colwythar.proofs.colwythar_read_unit.Tie as tie
 
-settings-in-requires : tie.Need-settings-in-requires
-settings-in-requires c κs = search needs
+from-words-requires : tie.Need-from-words-requires
+from-words-requires c κs = search needs
 
 read-unit-requires : tie.Need-read-unit-requires
 read-unit-requires c κs = search needs
@@ -23,9 +23,9 @@ returns c =
     let read = c .before .before .before .before in
     let set = read .before .before in
     let a = set .before .before .before .args in
-    passed-on (now (a .settings)) (set .settings-in .ensures) (λ s. readUnit s (a .address) (now (a .flags)) (now (a .rows))) (read .read-unit .ensures) (c .put-answer .ensures)
+    passed-on (now (a .settings)) (set .from-words .ensures) (λ s. readUnit s (a .address) (now (a .flags)) (now (a .rows))) (read .read-unit .ensures) (c .put-answer .ensures)
 
 pub colwythar-read-unit-spec : {M : Type 1} → statement M
 colwythar-read-unit-spec =
     tie.close
-    (tie.spec settings-in-requires read-unit-requires put-answer-requires same-length returns)
+    (tie.spec from-words-requires read-unit-requires put-answer-requires same-length returns)

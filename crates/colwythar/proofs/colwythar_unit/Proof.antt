@@ -5,8 +5,8 @@ use Rattle.colwythar.proofs.Passing.{moved-on}
 use Rattle.colwythar.proofs.colwythar_unit.Statement.{statement}
 use Rattle.colwythar.proofs.colwythar_unit.Tie as tie
 
-settings-in-requires : tie.Need-settings-in-requires
-settings-in-requires c κs = search needs
+from-words-requires : tie.Need-from-words-requires
+from-words-requires c κs = search needs
 
 unit-requires : tie.Need-unit-requires
 unit-requires c κs = search needs
@@ -22,8 +22,8 @@ returns c =
     let called = c .before .before .before .before .before in
     let set = called .before .before .before in
     let a = set .before .before .before .args in
-    moved-on (now (a .settings)) (set .settings-in .ensures) (called .unit .ensures) (c .put-answer .ensures)
+    moved-on (now (a .settings)) (set .from-words .ensures) (called .unit .ensures) (c .put-answer .ensures)
 
 pub colwythar-unit-spec : {M : Type 1} → statement M
 colwythar-unit-spec =
-    tie.close (tie.spec settings-in-requires unit-requires put-answer-requires same-length returns)
+    tie.close (tie.spec from-words-requires unit-requires put-answer-requires same-length returns)

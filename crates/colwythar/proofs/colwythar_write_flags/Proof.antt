@@ -6,8 +6,8 @@ use Rattle.colwythar.proofs.Passing.{passed-on}
 use Rattle.colwythar.proofs.colwythar_write_flags.Statement.{statement}
 use Rattle.colwythar.proofs.colwythar_write_flags.Tie as tie
 
-settings-in-requires : tie.Need-settings-in-requires
-settings-in-requires c κs = search needs
+from-words-requires : tie.Need-from-words-requires
+from-words-requires c κs = search needs
 
 write-flags-requires : tie.Need-write-flags-requires
 write-flags-requires c κs = search needs
@@ -23,9 +23,9 @@ returns c =
     let turned = c .before .before .before .before in
     let set = turned .before .before in
     let a = set .before .before .before .args in
-    passed-on (now (a .settings)) (set .settings-in .ensures) (λ s. writeFlags s (a .address) (now (a .rows)) (now (a .flags))) (turned .write-flags .ensures) (c .put-answer .ensures)
+    passed-on (now (a .settings)) (set .from-words .ensures) (λ s. writeFlags s (a .address) (now (a .rows)) (now (a .flags))) (turned .write-flags .ensures) (c .put-answer .ensures)
 
 pub colwythar-write-flags-spec : {M : Type 1} → statement M
 colwythar-write-flags-spec =
     tie.close
-    (tie.spec settings-in-requires write-flags-requires put-answer-requires same-length returns)
+    (tie.spec from-words-requires write-flags-requires put-answer-requires same-length returns)
