@@ -37,13 +37,13 @@ fn ternary_mask(d: Direction) -> u32
 }
 
 // Whether a horizontal cut is open, and a vertical one.
-fn horizontal(splits: u32) -> bool
+pub fn horizontal(splits: u32) -> bool
     ensures { λ r. ⌜ r ≡ (Splits.has splits 2 || Splits.has splits 8) ⌝ }
 {
     (splits & BH != 0) | (splits & TH != 0)
 }
 
-fn vertical(splits: u32) -> bool
+pub fn vertical(splits: u32) -> bool
     ensures { λ r. ⌜ r ≡ (Splits.has splits 4 || Splits.has splits 16) ⌝ }
 {
     (splits & BV != 0) | (splits & TV != 0)

@@ -1,5 +1,7 @@
 // The flags that say a decision, written after those before them.
 use crate::scratch::Scratch;
+use flags::horizontal;
+use flags::vertical;
 use tree::BH;
 use tree::BV;
 use tree::Decision;
@@ -8,11 +10,10 @@ use tree::QT;
 use tree::TH;
 use tree::TV;
 ghost use mathlib.Core.Path.{_≡_};
-ghost use mathlib.Core.Bool.{true, false, _||_};
+ghost use mathlib.Core.Bool.{true, false};
 ghost use Prim.Native.Nat.{_+_, _≤_, _<_};
 ghost use lib.ListN.{length};
 ghost use lib.Seq.{sets};
-ghost use Rattle.tree.specs.Splits as Splits;
 ghost use Rattle.tree.specs.Splits.{rightsIn, allows, pick};
 ghost use Rattle.tree.specs.Flags.{someOpen, binaryThere, flagByte, cutFlags, flagsFor};
 
@@ -45,19 +46,6 @@ fn put(flags: &mut Scratch, n: usize, there: bool, value: bool) -> usize
     } else {
         n
     }
-}
-
-// Whether a horizontal cut is open, and a vertical one.
-fn horizontal(splits: u32) -> bool
-    ensures { λ r. ⌜ r ≡ (Splits.has splits 2 || Splits.has splits 8) ⌝ }
-{
-    (splits & BH != 0) | (splits & TH != 0)
-}
-
-fn vertical(splits: u32) -> bool
-    ensures { λ r. ⌜ r ≡ (Splits.has splits 4 || Splits.has splits 16) ⌝ }
-{
-    (splits & BV != 0) | (splits & TV != 0)
 }
 
 // Whether some split is open; where a node lies plays no part.
