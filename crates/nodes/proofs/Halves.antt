@@ -1,15 +1,25 @@
 -- The two parts of a binary split, by the rows that the code has found for them.
-use Prim.Native.Nat.{ℕ}
+use Prim.Native.Nat.{ℕ, _+_, _*_, _/_, _%_}
 use mathlib.Core.Path.{_≡_}
 use mathlib.Core.Bool.{Bool, false}
 use mathlib.Core.List.{List, [], _∷_}
+use native.Mathlib.Omega.{arith}
 use Rattle.tree.specs.declared.Direction.{Direction}
+use Rattle.tree.specs.declared.Direction.the-variants.{Horizontal, Vertical}
 use Rattle.tree.specs.declared.Decision.{Decision}
 use Rattle.tree.specs.declared.Decision.the-variants.{Binary}
-use Rattle.nodes.specs.Words.{childRow, keptUnder}
+use Rattle.tree.specs.Children.{shares}
+use Rattle.blocks.specs.Table.{shareAt}
+use Rattle.nodes.specs.Words.{childRow, halfStep, keptUnder}
 use Rattle.nodes.specs.Stands.{Word, word, kidWords}
 use Rattle.nodes.proofs.KidWords.{two-words, two-areas}
 use Rattle.nodes.proofs.Measure.{areasIn}
+
+-- the second row is a step from the first
+pub second-is : (row : ℕ) (d : Direction) → (childRow row (Binary d) 0 + halfStep row d) % 18446744073709551616 ≡ childRow row (Binary d) 1
+unfolding childRow shareAt shares
+second-is row Horizontal = omega arith
+second-is row Vertical = omega arith
 
 -- the numbers of the two parts
 abbrev pub halves : ℕ → ℕ → ℕ → List Word

@@ -1,7 +1,7 @@
 -- A node as the walks carry it, two numbers: `row`, its row as one number, and `kept`, the splits that its depths and its parent leave it, 32 more
 -- where it may reach past the picture, and 64 for each 1 of its offset F.
 use Prim.Native.Nat.{ℕ, _+_, _-_, _*_, _/_, _%_, _^_}
-use mathlib.Core.Bool.{Bool, not, _&&_, cond}
+use mathlib.Core.Bool.{Bool, not, _&&_, _||_, cond}
 use mathlib.Core.List.{List}
 use lib.ListN.{getD}
 use lib.Dec.{ltb, eqb}
@@ -50,9 +50,13 @@ edgeIn u row kept = bitAnd kept (openSplits (rightsOf (luma (limitsIn u)) (nodeI
 abbrev pub innerIn : List ℕ → ℕ → ℕ → ℕ
 innerIn u row kept = bitAnd (bitAnd kept (getD u (6 + row / 4294967296 % 8) 0)) (getD u (12 + row / 1099511627776 % 8) 0)
 
--- its open splits: by the rules where it may reach past the picture, else by the masks
+-- they are found by the rules where the node is out, and for a root (a node without depths), whose sides may both be 128
+abbrev pub byRules : ℕ → ℕ → Bool → Bool
+byRules row kept out = mayReachPast kept && (out || ltb row 281474976710656)
+
+-- its open splits
 unfoldable pub openIn : List ℕ → ℕ → ℕ → ℕ
-openIn u row kept = cond (mayReachPast kept) (edgeIn u row kept) (innerIn u row kept)
+openIn u row kept = cond (byRules row kept (reachesOut u row kept)) (edgeIn u row kept) (innerIn u row kept)
 
 -- ---- its children
 
@@ -83,6 +87,12 @@ rowAbove row (Ternary d) = row
 -- the row of the child with a number
 unfoldable pub childRow : ℕ → Decision → ℕ → ℕ
 childRow row d i = (rowAbove row d + stepTo row d (shareAt d i)) % 2 ^ 64
+
+-- from the corner of the first half of a binary split to that of the second, in a row's number: where the second's share starts
+abbrev pub halfStep : ℕ → Direction → ℕ
+halfStep row d =
+    let p = partOf (nodeIn row 0 .w) (nodeIn row 0 .h) (shareAt (Binary d) 1) in
+    pick d (p .top * 65536) (p .left)
 
 -- `kept` for a child above all cuts: QT, and the cuts where M is not 0
 abbrev pub keptAbove : List ℕ → Bool → ℕ

@@ -14,7 +14,7 @@ ghost use Rattle.tree.specs.declared.Decision.the-variants.{Binary};
 ghost use Rattle.blocks.specs.Table.{shareAt};
 ghost use Rattle.nodes.specs.Tables.{limitsIn};
 ghost use Rattle.nodes.specs.Words as Words;
-ghost use Rattle.nodes.specs.Words.{stepTo, rowAbove, childRow, keptAbove, keptBelow, cutsOf, keptUnder};
+ghost use Rattle.nodes.specs.Words.{stepTo, rowAbove, childRow, halfStep, keptAbove, keptBelow, cutsOf, keptUnder};
 
 // By how much the exponent of a part's side is below its parent's, from the part's length in quarters.
 fn fall(size: u32) -> u64
@@ -69,14 +69,40 @@ pub fn child_row(row: u64, d: Decision, i: u32) -> u64
     std::num::wrapping_add_u64(row_above(row, d), step_to(row, d, i))
 }
 
-// The row of a half of a binary split. The direction is told apart first: for a known one the row is a sum of few numbers.
-pub fn half_row(row: u64, v: Direction, i: u32) -> u64
-    ensures { λ r. ⌜ r ≡ childRow row (Binary v) i ⌝ }
+// The row of the first half of a binary split. The direction is told apart first: for a known one the shares are too,
+// and the row is the parent's and a number.
+pub fn first_half(row: u64, v: Direction) -> u64
+    ensures { λ r. ⌜ r ≡ childRow row (Binary v) 0 ⌝ }
 {
     match v {
-        Direction::Horizontal => child_row(row, Decision::Binary(Direction::Horizontal), i),
-        Direction::Vertical => child_row(row, Decision::Binary(Direction::Vertical), i),
+        Direction::Horizontal => child_row(row, Decision::Binary(Direction::Horizontal), 0),
+        Direction::Vertical => child_row(row, Decision::Binary(Direction::Vertical), 0),
     }
+}
+
+// From the corner of the first half to that of the second, in a row's number: where the second's share starts.
+fn half_step(row: u64, v: Direction) -> u64
+    ensures { λ r. ⌜ r ≡ halfStep row v ⌝ }
+{
+    let w = width(row);
+    let h = height(row);
+    match v {
+        Direction::Horizontal => {
+            let part = blocks::part_at(w, h, Decision::Binary(Direction::Horizontal), 1);
+            (part.top as u64) * 65536
+        }
+        Direction::Vertical => {
+            let part = blocks::part_at(w, h, Decision::Binary(Direction::Vertical), 1);
+            part.left as u64
+        }
+    }
+}
+
+// The row of the second half of a binary split: the halves differ in their corners only.
+pub fn second_half(row: u64, v: Direction) -> u64
+    ensures { λ r. ⌜ r ≡ childRow row (Binary v) 1 ⌝ }
+{
+    std::num::wrapping_add_u64(first_half(row, v), half_step(row, v))
 }
 
 // M, the bound of the MTT depth.

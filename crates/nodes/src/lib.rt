@@ -7,8 +7,9 @@ mod picture;
 mod state;
 
 pub use children::child_row;
-pub use children::half_row;
+pub use children::first_half;
 pub use children::kept_under;
+pub use children::second_half;
 pub use fields::height;
 pub use fields::left;
 pub use fields::mtt_depth;
@@ -19,6 +20,7 @@ pub use fields::width;
 pub use masks::Table;
 pub use masks::tables;
 pub use picture::bottom_out;
+pub use picture::by_rules;
 pub use picture::edge_splits;
 pub use picture::inner_splits;
 pub use picture::may_reach_past;

@@ -12,7 +12,7 @@ ghost use mathlib.Core.List.{[], _∷_};
 ghost use Prim.Native.Nat.{min};
 ghost use Rattle.nodes.specs.Stands.{word, fourWords, threeWords, kidWords};
 ghost use Rattle.nodes.specs.Walks.{Asked, Walked};
-ghost use Rattle.nodes.specs.Words.{openIn};
+ghost use Rattle.nodes.specs.Words.{reachesOut, openIn};
 ghost use Rattle.reader.specs.Walking.{readWay};
 
 // The smaller of two places.
@@ -24,10 +24,11 @@ fn earlier(a: usize, b: usize) -> usize
 
 // The open splits of a node. Each walk has this choice for itself: then the masks are part of its code, and the rules of
 // the picture's edge, which are long, stay a call.
-fn open_splits(u: &Table, row: u64, kept: u32) -> u32
+fn open_splits(u: &Table, row: u64, kept: u32, out: bool) -> u32
+    requires { ⌜ out ≡ reachesOut (now u) row kept ⌝ }
     ensures { λ r. ⌜ r ≡ openIn (now (u .entry)) row kept ⌝ }
 {
-    if nodes::may_reach_past(kept) {
+    if nodes::by_rules(row, kept, out) {
         nodes::edge_splits(u, row, kept)
     } else {
         nodes::inner_splits(u, row, kept)
@@ -51,23 +52,21 @@ pub(crate) fn node_walk(
     }
     let out = nodes::out(u, row, kept);
     let end = flags.len();
-    match flags::decide(flags, nodes::place(c), out, open_splits(u, row, kept)) {
+    // The two copies of the lent slice: with them the compiler passes it in two registers, and ends in a jump.
+    let ahead = flags;
+    let splits = open_splits(u, row, kept, out);
+    match flags::decide(ahead, nodes::place(c), out, splits) {
         Choice::Refused(number, at) => nodes::stopping(number, earlier(at, end)),
         Choice::Chosen(decision, next) => match decision {
             Decision::Leaf => {
                 blocks::put_row(rows, nodes::count(c) * 8, row);
                 nodes::going(next, nodes::count(c) + 1)
             }
-            _ => children_walk(
-                u,
-                flags,
-                rows,
-                nodes::going(next, nodes::count(c)),
-                row,
-                kept,
-                out,
-                decision,
-            ),
+            _ => {
+                let after = flags;
+                let c1 = nodes::going(next, nodes::count(c));
+                children_walk(u, after, rows, c1, row, kept, out, decision)
+            }
         },
     }
 }
@@ -94,8 +93,8 @@ pub(crate) fn children_walk(
         }
         Decision::Binary(v) => {
             let k = nodes::kept_under(u, row, kept, out, d, 0);
-            let row0 = nodes::half_row(row, v, 0);
-            let row1 = nodes::half_row(row, v, 1);
+            let row0 = nodes::first_half(row, v);
+            let row1 = nodes::second_half(row, v);
             two_walk(u, flags, rows, c, row0, row1, k)
         }
         Decision::Ternary(v) => {

@@ -16,15 +16,16 @@ ghost use Prim.Native.Nat.{_%_};
 ghost use lib.ListN.{length};
 ghost use Rattle.nodes.specs.Stands.{word, fourWords, threeWords, kidWords};
 ghost use Rattle.nodes.specs.Walks.{Asked, Walked};
-ghost use Rattle.nodes.specs.Words.{openIn};
+ghost use Rattle.nodes.specs.Words.{reachesOut, openIn};
 ghost use Rattle.writer.specs.Ahead.{backWay};
 
 // The open splits of a node. Each walk has this choice for itself: then the masks are part of its code, and the rules of
 // the picture's edge, which are long, stay a call.
-fn open_splits(u: &Table, row: u64, kept: u32) -> u32
+fn open_splits(u: &Table, row: u64, kept: u32, out: bool) -> u32
+    requires { ⌜ out ≡ reachesOut (now u) row kept ⌝ }
     ensures { λ r. ⌜ r ≡ openIn (now (u .entry)) row kept ⌝ }
 {
-    if nodes::may_reach_past(kept) {
+    if nodes::by_rules(row, kept, out) {
         nodes::edge_splits(u, row, kept)
     } else {
         nodes::inner_splits(u, row, kept)
@@ -51,14 +52,17 @@ pub(crate) fn node_back(
         return nodes::stopping(16, 0);
     }
     let out = nodes::out(u, row, kept);
-    let splits = open_splits(u, row, kept);
-    let d = decision_ahead(u, row, out, rows, at);
+    let splits = open_splits(u, row, kept, out);
+    // The copies of the lent slice: with them the compiler passes it in two registers, and ends in a jump.
+    let ahead = rows;
+    let d = decision_ahead(u, row, out, ahead, at);
     if !allowed(out, splits, d) {
         return nodes::stopping(16, 0);
     }
     match d {
         Decision::Leaf => {
-            if !same_row(rows, at, row) {
+            let next = rows;
+            if !same_row(next, at, row) {
                 return nodes::stopping(16, 0);
             }
             let n = put_flags(flags, nodes::count(c), out, splits, d);
@@ -66,7 +70,8 @@ pub(crate) fn node_back(
         }
         _ => {
             let n = put_flags(flags, nodes::count(c), out, splits, d);
-            children_back(u, rows, flags, nodes::going(at, n), row, kept, out, d)
+            let after = rows;
+            children_back(u, after, flags, nodes::going(at, n), row, kept, out, d)
         }
     }
 }
@@ -93,8 +98,8 @@ pub(crate) fn children_back(
         }
         Decision::Binary(v) => {
             let k = nodes::kept_under(u, row, kept, out, d, 0);
-            let row0 = nodes::half_row(row, v, 0);
-            let row1 = nodes::half_row(row, v, 1);
+            let row0 = nodes::first_half(row, v);
+            let row1 = nodes::second_half(row, v);
             two_back(u, rows, flags, c, row0, row1, k)
         }
         Decision::Ternary(v) => {

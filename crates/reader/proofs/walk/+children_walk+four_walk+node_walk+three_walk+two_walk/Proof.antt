@@ -41,7 +41,8 @@ use Rattle.reader.proofs.walk.+children_walk+four_walk+node_walk+three_
 use Rattle.blocks.proofs.put_row.Reads as put-row-reads
 use Rattle.flags.proofs.decide.Reads as decide-reads
 use Rattle.nodes.proofs.child_row.Reads as child-row-reads
-use Rattle.nodes.proofs.half_row.Reads as half-row-reads
+use Rattle.nodes.proofs.first_half.Reads as first-half-reads
+use Rattle.nodes.proofs.second_half.Reads as second-half-reads
 use Rattle.nodes.proofs.kept_under.Reads as kept-under-reads
 use Rattle.reader.proofs.walk.open_splits.Reads as open-splits-reads
 use Rattle.nodes.proofs.out.Reads as out-reads
@@ -113,13 +114,13 @@ two-walk-below t =
 
 -- what the functions that each member calls ask and give
 abbrev children-claims : ℕ → children-walk-lts.Claims
-children-claims t = (kept-under-reads.Asked, kept-under-reads.Learnt, four-walk-below t, four-walk.Post, half-row-reads.Asked, half-row-reads.Learnt, two-walk-below t, two-walk.Post, three-walk-below t, three-walk.Post)
+children-claims t = (kept-under-reads.Asked, kept-under-reads.Learnt, four-walk-below t, four-walk.Post, first-half-reads.Asked, first-half-reads.Learnt, second-half-reads.Asked, second-half-reads.Learnt, two-walk-below t, two-walk.Post, three-walk-below t, three-walk.Post)
 
 abbrev four-claims : ℕ → four-walk-lts.Claims
 four-claims t = (child-row-reads.Asked, child-row-reads.Learnt, node-walk-below t, node-walk.Post, taken-apart-reads.Asked, taken-apart-reads.Learnt)
 
 abbrev node-claims : ℕ → node-walk-lts.Claims
-node-claims t = (skipped-reads.Asked, skipped-reads.Learnt, out-reads.Asked, out-reads.Learnt, place-reads.Asked, place-reads.Learnt, open-splits-reads.Asked, open-splits-reads.Learnt, decide-reads.Asked, decide-reads.Learnt, earlier-reads.Asked, earlier-reads.Learnt, stopping-reads.Asked, stopping-reads.Learnt, count-reads.Asked, count-reads.Learnt, put-row-reads.Asked, put-row-reads.Learnt, going-reads.Asked, going-reads.Learnt, children-walk-below t, children-walk.Post)
+node-claims t = (skipped-reads.Asked, skipped-reads.Learnt, out-reads.Asked, out-reads.Learnt, open-splits-reads.Asked, open-splits-reads.Learnt, place-reads.Asked, place-reads.Learnt, decide-reads.Asked, decide-reads.Learnt, earlier-reads.Asked, earlier-reads.Learnt, stopping-reads.Asked, stopping-reads.Learnt, count-reads.Asked, count-reads.Learnt, put-row-reads.Asked, put-row-reads.Learnt, going-reads.Asked, going-reads.Learnt, children-walk-below t, children-walk.Post)
 
 abbrev three-claims : ℕ → three-walk-lts.Claims
 three-claims t = (child-row-reads.Asked, child-row-reads.Learnt, node-walk-below t, node-walk.Post, taken-apart-reads.Asked, taken-apart-reads.Learnt)
@@ -154,11 +155,11 @@ children-walk-enum-known-d t c = search needs
 children-walk-kept-under-requires-2 : (t : ℕ) → children-walk-lts.Need-kept-under-requires-2 (children-claims t) (children-walk-at t) children-walk.Post
 children-walk-kept-under-requires-2 t c κs = search needs
 
-children-walk-half-row-requires : (t : ℕ) → children-walk-lts.Need-half-row-requires (children-claims t) (children-walk-at t) children-walk.Post
-children-walk-half-row-requires t c κs = search needs
+children-walk-first-half-requires : (t : ℕ) → children-walk-lts.Need-first-half-requires (children-claims t) (children-walk-at t) children-walk.Post
+children-walk-first-half-requires t c κs = search needs
 
-children-walk-half-row-requires-2 : (t : ℕ) → children-walk-lts.Need-half-row-requires-2 (children-claims t) (children-walk-at t) children-walk.Post
-children-walk-half-row-requires-2 t c κs = search needs
+children-walk-second-half-requires : (t : ℕ) → children-walk-lts.Need-second-half-requires (children-claims t) (children-walk-at t) children-walk.Post
+children-walk-second-half-requires t c κs = search needs
 
 children-walk-two-walk-requires : (t : ℕ) → children-walk-lts.Need-two-walk-requires (children-claims t) (children-walk-at t) children-walk.Post
 children-walk-two-walk-requires t c κs =
@@ -170,8 +171,8 @@ children-walk-two-walk-requires t c κs =
     let a = st .args in
     let way = readWay (now (a .flags)) in
     let e = d .d .given .1 in (
-      kids-fall (half-areas (now (a .u)) (a .row) _ e (h1 .half-row .ensures) (h2 .half-row2 .ensures)) (st .pre .0),
-      subst (λ ws. Asked way (now (a .u)) (a .c) ws) (sym (half-words (now (a .u)) (a .row) _ e (h1 .half-row .ensures) (h2 .half-row2 .ensures) (a .kept) (a .out) (k .kept-under2 .ensures))) (st .pre .1),
+      kids-fall (half-areas (now (a .u)) (a .row) _ e (h1 .first-half .ensures) (h2 .second-half .ensures)) (st .pre .0),
+      subst (λ ws. Asked way (now (a .u)) (a .c) ws) (sym (half-words (now (a .u)) (a .row) _ e (h1 .first-half .ensures) (h2 .second-half .ensures) (a .kept) (a .out) (k .kept-under2 .ensures))) (st .pre .1),
     )
 
 children-walk-enum-known-d-2 : (t : ℕ) → children-walk-lts.Need-enum-known-d-2 (children-claims t) (children-walk-at t) children-walk.Post
@@ -223,7 +224,7 @@ children-walk-returns-3 t c =
     let way = readWay (now (a .flags)) in
     let e = d .d .given .1 in
     subst (λ ws. Walked way (now (a .u)) (a .c) ws (now (a .rows)) (c .two-walk .result) (c .two-walk .last .1 .1 .0))
-    (half-words (now (a .u)) (a .row) _ e (h1 .half-row .ensures) (h2 .half-row2 .ensures) (a .kept) (a .out) (k .kept-under2 .ensures)) (c .two-walk .ensures)
+    (half-words (now (a .u)) (a .row) _ e (h1 .first-half .ensures) (h2 .second-half .ensures) (a .kept) (a .out) (k .kept-under2 .ensures)) (c .two-walk .ensures)
 
 children-walk-returns-4 : (t : ℕ) → children-walk-lts.Need-returns-4 (children-claims t) (children-walk-at t) children-walk.Post
 children-walk-returns-4 t c =
@@ -413,11 +414,11 @@ node-walk-returns t c =
 node-walk-out-requires : (t : ℕ) → node-walk-lts.Need-out-requires (node-claims t) (node-walk-at t) node-walk.Post
 node-walk-out-requires t c κs = search needs
 
+node-walk-open-splits-requires : (t : ℕ) → node-walk-lts.Need-open-splits-requires (node-claims t) (node-walk-at t) node-walk.Post
+node-walk-open-splits-requires t c κs = c .out .ensures
+
 node-walk-place-requires : (t : ℕ) → node-walk-lts.Need-place-requires (node-claims t) (node-walk-at t) node-walk.Post
 node-walk-place-requires t c κs = search needs
-
-node-walk-open-splits-requires : (t : ℕ) → node-walk-lts.Need-open-splits-requires (node-claims t) (node-walk-at t) node-walk.Post
-node-walk-open-splits-requires t c κs = search needs
 
 node-walk-decide-requires : (t : ℕ) → node-walk-lts.Need-decide-requires (node-claims t) (node-walk-at t) node-walk.Post
 node-walk-decide-requires t c κs = search needs
@@ -468,14 +469,14 @@ node-walk-going-requires-2 t c κs =
 
 node-walk-children-walk-requires : (t : ℕ) → node-walk-lts.Need-children-walk-requires (node-claims t) (node-walk-at t) node-walk.Post
 node-walk-children-walk-requires t c κs =
-    let g = c in
+    let g = c .before in
     let c3 = g .before in
-    let m2 = c3 .before .before in
+    let m2 = c3 .before in
     let dr = m2 .before .before in
     let de = dr .before .before in
-    let os = de .before in
-    let pl = os .before in
-    let ou = pl .before in
+    let pl = de .before in
+    let os = pl .before in
+    let ou = os .before in
     let el = ou .before in
     let st = el .before .before .before in
     let a = st .args in
@@ -495,9 +496,9 @@ node-walk-returns-2 t c =
     let ea = c .before in
     let nu = ea .before .before in
     let de = nu .before .before in
-    let os = de .before in
-    let pl = os .before in
-    let ou = pl .before in
+    let pl = de .before in
+    let os = pl .before in
+    let ou = os .before in
     let el = ou .before in
     let st = el .before .before .before in
     let a = st .args in
@@ -514,9 +515,9 @@ node-walk-returns-3 t c =
     let et = co .before .before in
     let dr = et .before .before .before in
     let de = dr .before .before in
-    let os = de .before in
-    let pl = os .before in
-    let ou = pl .before in
+    let pl = de .before in
+    let os = pl .before in
+    let ou = os .before in
     let el = ou .before in
     let st = el .before .before .before in
     let a = st .args in
@@ -529,14 +530,14 @@ node-walk-returns-3 t c =
 
 node-walk-returns-4 : (t : ℕ) → node-walk-lts.Need-returns-4 (node-claims t) (node-walk-at t) node-walk.Post
 node-walk-returns-4 t c =
-    let g = c .before in
+    let g = c .before .before in
     let c3 = g .before in
-    let m2 = c3 .before .before in
+    let m2 = c3 .before in
     let dr = m2 .before .before in
     let de = dr .before .before in
-    let os = de .before in
-    let pl = os .before in
-    let ou = pl .before in
+    let pl = de .before in
+    let os = pl .before in
+    let ou = os .before in
     let el = ou .before in
     let st = el .before .before .before in
     let a = st .args in
@@ -726,8 +727,8 @@ pub +children-walk+four-walk+node-walk+three-walk+two-walk-spec : {M : Type 1} �
     (children-walk-four-walk-requires t)
     (children-walk-enum-known-d t)
     (children-walk-kept-under-requires-2 t)
-    (children-walk-half-row-requires t)
-    (children-walk-half-row-requires-2 t)
+    (children-walk-first-half-requires t)
+    (children-walk-second-half-requires t)
     (children-walk-two-walk-requires t)
     (children-walk-enum-known-d-2 t)
     (children-walk-kept-under-requires-3 t)
@@ -767,8 +768,8 @@ pub +children-walk+four-walk+node-walk+three-walk+two-walk-spec : {M : Type 1} �
     (node-walk-skipped-requires t)
     (node-walk-returns t)
     (node-walk-out-requires t)
-    (node-walk-place-requires t)
     (node-walk-open-splits-requires t)
+    (node-walk-place-requires t)
     (node-walk-decide-requires t)
     (node-walk-enum-known-number t)
     (node-walk-earlier-requires t)

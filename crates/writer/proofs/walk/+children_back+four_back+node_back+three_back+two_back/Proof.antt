@@ -42,7 +42,8 @@ use Rattle.writer.proofs.walk.two_back.Reads as two-back
 use Rattle.writer.proofs.walk.two_back.Kinds as two-back-kinds
 use Rattle.writer.proofs.walk.+children_back+four_back+node_back+three_back+two_back.Lts-two_back as two-back-lts
 use Rattle.nodes.proofs.child_row.Reads as child-row-reads
-use Rattle.nodes.proofs.half_row.Reads as half-row-reads
+use Rattle.nodes.proofs.first_half.Reads as first-half-reads
+use Rattle.nodes.proofs.second_half.Reads as second-half-reads
 use Rattle.nodes.proofs.kept_under.Reads as kept-under-reads
 use Rattle.writer.proofs.walk.open_splits.Reads as open-splits-reads
 use Rattle.nodes.proofs.out.Reads as out-reads
@@ -117,7 +118,7 @@ two-back-below t =
 
 -- what the functions that each member calls ask and give
 abbrev children-claims : ℕ → children-back-lts.Claims
-children-claims t = (kept-under-reads.Asked, kept-under-reads.Learnt, four-back-below t, four-back.Post, half-row-reads.Asked, half-row-reads.Learnt, two-back-below t, two-back.Post, three-back-below t, three-back.Post)
+children-claims t = (kept-under-reads.Asked, kept-under-reads.Learnt, four-back-below t, four-back.Post, first-half-reads.Asked, first-half-reads.Learnt, second-half-reads.Asked, second-half-reads.Learnt, two-back-below t, two-back.Post, three-back-below t, three-back.Post)
 
 abbrev four-claims : ℕ → four-back-lts.Claims
 four-claims t = (child-row-reads.Asked, child-row-reads.Learnt, node-back-below t, node-back.Post, taken-apart-reads.Asked, taken-apart-reads.Learnt)
@@ -158,11 +159,11 @@ children-back-enum-known-d t c = search needs
 children-back-kept-under-requires-2 : (t : ℕ) → children-back-lts.Need-kept-under-requires-2 (children-claims t) (children-back-at t) children-back.Post
 children-back-kept-under-requires-2 t c κs = search needs
 
-children-back-half-row-requires : (t : ℕ) → children-back-lts.Need-half-row-requires (children-claims t) (children-back-at t) children-back.Post
-children-back-half-row-requires t c κs = search needs
+children-back-first-half-requires : (t : ℕ) → children-back-lts.Need-first-half-requires (children-claims t) (children-back-at t) children-back.Post
+children-back-first-half-requires t c κs = search needs
 
-children-back-half-row-requires-2 : (t : ℕ) → children-back-lts.Need-half-row-requires-2 (children-claims t) (children-back-at t) children-back.Post
-children-back-half-row-requires-2 t c κs = search needs
+children-back-second-half-requires : (t : ℕ) → children-back-lts.Need-second-half-requires (children-claims t) (children-back-at t) children-back.Post
+children-back-second-half-requires t c κs = search needs
 
 children-back-two-back-requires : (t : ℕ) → children-back-lts.Need-two-back-requires (children-claims t) (children-back-at t) children-back.Post
 children-back-two-back-requires t c κs =
@@ -174,8 +175,8 @@ children-back-two-back-requires t c κs =
     let a = st .args in
     let way = backWay (now (a .rows)) in
     let e = d .d .given .1 in (
-      kids-fall (half-areas (now (a .u)) (a .row) _ e (h0 .half-row .ensures) (h1 .half-row2 .ensures)) (st .pre .0),
-      (subst (λ ws. Asked way (now (a .u)) (a .c) ws) (sym (half-words (now (a .u)) (a .row) _ e (h0 .half-row .ensures) (h1 .half-row2 .ensures) (a .kept) (a .out) (k .kept-under2 .ensures))) (st .pre .1 .0), st .pre .1 .1),
+      kids-fall (half-areas (now (a .u)) (a .row) _ e (h0 .first-half .ensures) (h1 .second-half .ensures)) (st .pre .0),
+      (subst (λ ws. Asked way (now (a .u)) (a .c) ws) (sym (half-words (now (a .u)) (a .row) _ e (h0 .first-half .ensures) (h1 .second-half .ensures) (a .kept) (a .out) (k .kept-under2 .ensures))) (st .pre .1 .0), st .pre .1 .1),
     )
 
 children-back-enum-known-d-2 : (t : ℕ) → children-back-lts.Need-enum-known-d-2 (children-claims t) (children-back-at t) children-back.Post
@@ -227,7 +228,7 @@ children-back-returns-3 t c =
     let way = backWay (now (a .rows)) in
     let e = d .d .given .1 in
     subst (λ ws. Walked way (now (a .u)) (a .c) ws (now (a .flags)) (c .two-back .result) (c .two-back .last .1 .1 .0))
-    (half-words (now (a .u)) (a .row) _ e (h0 .half-row .ensures) (h1 .half-row2 .ensures) (a .kept) (a .out) (k .kept-under2 .ensures)) (c .two-back .ensures)
+    (half-words (now (a .u)) (a .row) _ e (h0 .first-half .ensures) (h1 .second-half .ensures) (a .kept) (a .out) (k .kept-under2 .ensures)) (c .two-back .ensures)
 
 children-back-returns-4 : (t : ℕ) → children-back-lts.Need-returns-4 (children-claims t) (children-back-at t) children-back.Post
 children-back-returns-4 t c =
@@ -896,8 +897,8 @@ pub +children-back+four-back+node-back+three-back+two-back-spec : {M : Type 1} �
     (children-back-four-back-requires t)
     (children-back-enum-known-d t)
     (children-back-kept-under-requires-2 t)
-    (children-back-half-row-requires t)
-    (children-back-half-row-requires-2 t)
+    (children-back-first-half-requires t)
+    (children-back-second-half-requires t)
     (children-back-two-back-requires t)
     (children-back-enum-known-d-2 t)
     (children-back-kept-under-requires-3 t)
