@@ -77,12 +77,12 @@ module _ {l : Limits} {n : Node} {row kept : ℕ} (s : Stands l n (word row kept
       omega arith
 
   open-is : (e out root : Bool) → s .edge ≡ e → out ≡ isOut l n → ltb row 281474976710656 ≡ root
-      → cond (e && (out || root)) (bitAnd kept (openSplits (rightsOf (luma l) (nodeIn row kept)))) (bitAnd (bitAnd kept (getD (tableOf l) (6 + row / 4294967296 % 8) 0)) (getD (tableOf l) (12 + row / 1099511627776 % 8) 0))
+      → cond (out || e && root) (bitAnd kept (openSplits (rightsOf (luma l) (nodeIn row kept)))) (bitAnd (bitAnd kept (getD (tableOf l) (6 + row / 4294967296 % 8) 0)) (getD (tableOf l) (12 + row / 1099511627776 % 8) 0))
       ≡ openSplits (rightsOf (luma l) n)
-  open-is true true root is o r = edge-open
+  open-is e true root is o r = edge-open
   open-is true false true is o r = edge-open
   open-is true false false is o r = inner-open (small-below r) (ap not (sym o))
-  open-is false out root is o r = inner-open (s .inner is .small) (s .inner is .within)
+  open-is false false root is o r = inner-open (s .inner is .small) (s .inner is .within)
 
   open-says : openIn (tableOf l) row kept ≡ openSplits (rightsOf (luma l) n)
   unfolding openIn tableOf

@@ -50,13 +50,13 @@ edgeIn u row kept = bitAnd kept (openSplits (rightsOf (luma (limitsIn u)) (nodeI
 abbrev pub innerIn : List ℕ → ℕ → ℕ → ℕ
 innerIn u row kept = bitAnd (bitAnd kept (getD u (6 + row / 4294967296 % 8) 0)) (getD u (12 + row / 1099511627776 % 8) 0)
 
--- they are found by the rules where the node is out, and for a root (a node without depths), whose sides may both be 128
-abbrev pub byRules : ℕ → ℕ → Bool → Bool
-byRules row kept out = mayReachPast kept && (out || ltb row 281474976710656)
+-- a root has no depths; its sides may both be 128, for which the masks are not made
+abbrev pub isRoot : ℕ → ℕ → Bool
+isRoot row kept = mayReachPast kept && ltb row 281474976710656
 
--- its open splits
+-- its open splits: by the rules where it is out, and for a root; else by the masks
 unfoldable pub openIn : List ℕ → ℕ → ℕ → ℕ
-openIn u row kept = cond (byRules row kept (reachesOut u row kept)) (edgeIn u row kept) (innerIn u row kept)
+openIn u row kept = cond (reachesOut u row kept || isRoot row kept) (edgeIn u row kept) (innerIn u row kept)
 
 -- ---- its children
 

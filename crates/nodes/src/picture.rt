@@ -7,7 +7,7 @@ use crate::masks::Table;
 ghost use mathlib.Core.Path.{_≡_};
 ghost use Rattle.tree.specs.Splits.{bottomOut};
 ghost use Rattle.nodes.specs.Tables.{limitsIn};
-ghost use Rattle.nodes.specs.Words.{nodeIn, mayReachPast, skips, reachesOut, byRules, edgeIn, innerIn};
+ghost use Rattle.nodes.specs.Words.{nodeIn, mayReachPast, skips, reachesOut, isRoot, edgeIn, innerIn};
 
 // Whether a node may reach past the picture: a root, and a child of a node that is out.
 pub fn may_reach_past(kept: u32) -> bool
@@ -45,13 +45,13 @@ pub fn bottom_out(u: &Table, row: u64) -> bool
     splits::bottom_out(limits_of(u), node_of(row, 0))
 }
 
-// Whether a node's open splits are found by the rules: where it is out, and for a root (a node without depths), whose
-// sides may both be 128. Else the masks of its sides have them.
-pub fn by_rules(row: u64, kept: u32, out: bool) -> bool
-    ensures { λ r. ⌜ r ≡ byRules row kept out ⌝ }
+// Whether a node is a root: it may reach past the picture and has no depths. Its sides may both be 128, for which the masks
+// are not made.
+pub fn is_root(row: u64, kept: u32) -> bool
+    ensures { λ r. ⌜ r ≡ isRoot row kept ⌝ }
 {
     if may_reach_past(kept) {
-        out | (row < 281474976710656)
+        row < 281474976710656
     } else {
         false
     }

@@ -22,13 +22,16 @@ fn earlier(a: usize, b: usize) -> usize
     if a < b { a } else { b }
 }
 
-// The open splits of a node. Each walk has this choice for itself: then the masks are part of its code, and the rules of
-// the picture's edge, which are long, stay a call.
+// The open splits of a node. Each walk has this choice for itself: in one place for both the compiler makes it a call at
+// each node. Here `out` is asked first, so that the rest of the walk is compiled for a known one.
 fn open_splits(u: &Table, row: u64, kept: u32, out: bool) -> u32
     requires { ⌜ out ≡ reachesOut (now u) row kept ⌝ }
     ensures { λ r. ⌜ r ≡ openIn (now (u .entry)) row kept ⌝ }
 {
-    if nodes::by_rules(row, kept, out) {
+    if out {
+        return nodes::edge_splits(u, row, kept);
+    }
+    if nodes::is_root(row, kept) {
         nodes::edge_splits(u, row, kept)
     } else {
         nodes::inner_splits(u, row, kept)
@@ -52,7 +55,7 @@ pub(crate) fn node_walk(
     }
     let out = nodes::out(u, row, kept);
     let end = flags.len();
-    // The two copies of the lent slice: with them the compiler passes it in two registers, and ends in a jump.
+    // The copies of the lent slice let the compiler pass it in two registers, and walk the last child by a jump.
     let ahead = flags;
     let splits = open_splits(u, row, kept, out);
     match flags::decide(ahead, nodes::place(c), out, splits) {

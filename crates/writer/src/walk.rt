@@ -19,13 +19,16 @@ ghost use Rattle.nodes.specs.Walks.{Asked, Walked};
 ghost use Rattle.nodes.specs.Words.{reachesOut, openIn};
 ghost use Rattle.writer.specs.Ahead.{backWay};
 
-// The open splits of a node. Each walk has this choice for itself: then the masks are part of its code, and the rules of
-// the picture's edge, which are long, stay a call.
+// The open splits of a node. Each walk has this choice for itself: in one place for both the compiler makes it a call at
+// each node.
 fn open_splits(u: &Table, row: u64, kept: u32, out: bool) -> u32
     requires { ⌜ out ≡ reachesOut (now u) row kept ⌝ }
     ensures { λ r. ⌜ r ≡ openIn (now (u .entry)) row kept ⌝ }
 {
-    if nodes::by_rules(row, kept, out) {
+    if nodes::is_root(row, kept) {
+        return nodes::edge_splits(u, row, kept);
+    }
+    if out {
         nodes::edge_splits(u, row, kept)
     } else {
         nodes::inner_splits(u, row, kept)
@@ -53,7 +56,7 @@ pub(crate) fn node_back(
     }
     let out = nodes::out(u, row, kept);
     let splits = open_splits(u, row, kept, out);
-    // The copies of the lent slice: with them the compiler passes it in two registers, and ends in a jump.
+    // The copies of the lent slice let the compiler pass it in two registers, and walk the last child by a jump.
     let ahead = rows;
     let d = decision_ahead(u, row, out, ahead, at);
     if !allowed(out, splits, d) {
