@@ -22,8 +22,8 @@ fn earlier(a: usize, b: usize) -> usize
     if a < b { a } else { b }
 }
 
-// The open splits of a node. Each walk has this choice for itself: in one place for both the compiler makes it a call at
-// each node. Here `out` is asked first, so that the rest of the walk is compiled for a known one.
+// The open splits of a node. Each walk has this choice for itself: in one place for both the compiler makes it a call
+// at each node. Here `out` is asked first, so that the rest of the walk is compiled for a known one.
 fn open_splits(u: &Table, row: u64, kept: u32, out: bool) -> u32
     requires { ⌜ out ≡ reachesOut (now u) row kept ⌝ }
     ensures { λ r. ⌜ r ≡ openIn (now (u .entry)) row kept ⌝ }

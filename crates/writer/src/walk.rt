@@ -19,8 +19,8 @@ ghost use Rattle.nodes.specs.Walks.{Asked, Walked};
 ghost use Rattle.nodes.specs.Words.{reachesOut, openIn};
 ghost use Rattle.writer.specs.Ahead.{backWay};
 
-// The open splits of a node. Each walk has this choice for itself: in one place for both the compiler makes it a call at
-// each node.
+// The open splits of a node. Each walk has this choice for itself: in one place for both the compiler makes it a call
+// at each node.
 fn open_splits(u: &Table, row: u64, kept: u32, out: bool) -> u32
     requires { ⌜ out ≡ reachesOut (now u) row kept ⌝ }
     ensures { λ r. ⌜ r ≡ openIn (now (u .entry)) row kept ⌝ }
