@@ -47,7 +47,8 @@ pub extern "C" fn colwythar_write_flags(
     put_answer(a, answer);
 }
 
-// Whether a picture with these settings can be opened: refusals 1 to 9, or 0. A fresh session is the settings and due 0.
+// Whether a picture with these settings can be opened: refusals 1 to 9, or 0. A fresh session is the settings and
+// due 0.
 #[no_mangle]
 pub extern "C" fn colwythar_open(settings: &[u32; 8], answer: &mut [u64; 2])
     ensures { λ _. ⌜ now (answer .exit) ≡ openedWords (opening (settingsIn (now (settings .entry)))) ⌝ }
@@ -56,8 +57,8 @@ pub extern "C" fn colwythar_open(settings: &[u32; 8], answer: &mut [u64; 2])
     *answer = [opened.number() as u64, 0];
 }
 
-// The unit call on the session of these settings and the due address: refusals 22, 20, 21 and 11 to 14, or the number of
-// rows. The due address is moved on by an accepted call.
+// The unit call on the session of these settings and the due address: refusals 22, 20, 21 and 11 to 14, or the number
+// of rows. The due address is moved on by an accepted call.
 #[no_mangle]
 pub extern "C" fn colwythar_unit(
     settings: &[u32; 8],

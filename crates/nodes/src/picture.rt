@@ -45,8 +45,8 @@ pub fn bottom_out(u: &Table, row: u64) -> bool
     splits::bottom_out(limits_of(u), node_of(row, 0))
 }
 
-// Whether a node is a root: it may reach past the picture and has no depths. Its sides may both be 128, for which the masks
-// are not made.
+// Whether a node is a root: it may reach past the picture and has no depths. Its sides may both be 128, for which the
+// masks are not made.
 pub fn is_root(row: u64, kept: u32) -> bool
     ensures { λ r. ⌜ r ≡ isRoot row kept ⌝ }
 {

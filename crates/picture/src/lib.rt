@@ -7,7 +7,8 @@ ghost use Prim.Native.Nat.{_<_};
 ghost use Rattle.picture.specs.Session.{opening, openedNumber, call, returned, Yields};
 ghost use Rattle.unit.specs.declared.Answer.the-variants.{Refused as Answer·Refused};
 
-// Document 01's session: the settings and the address due. Its fields are open to its holder, so a call checks them again.
+// Document 01's session: the settings and the address due. Its fields are open to its holder, so a call checks them
+// again.
 pub struct Session {
     pub settings: Settings,
     pub due: usize,

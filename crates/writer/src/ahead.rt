@@ -65,8 +65,9 @@ fn end_across(rows: &[u8], i: usize, d: Direction) -> u32
     }
 }
 
-// Whether some row, from a row on, ends at a corner before any row reaches past the line that a cut of the direction draws there.
-// The corner is given by the line and by the other end; a row's other end is of interest only where the row ends at the line.
+// Whether some row, from a row on, ends at a corner before any row reaches past the line that a cut of the direction
+// draws there. The corner is given by the line and by the other end; a row's other end is of interest only where the
+// row ends at the line.
 fn reach(rows: &[u8], at: usize, d: Direction, line: u32, other: u32) -> bool
     requires { ⌜ (at * 8 ≤ length (now rows)) × (length (now rows) % 8 ≡ 0) ⌝ }
     ensures { λ r. ⌜ r ≡ Back.reach d (pick d other line) (pick d line other) (rowsFrom (now (rows .entry)) at) ⌝ }

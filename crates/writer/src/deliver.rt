@@ -29,7 +29,8 @@ pub(crate) fn is_leaf(l: Limits, root: Node, rows: &[u8]) -> bool
     }
 }
 
-// The way back of a root that is a leaf, by its open splits: where one is open, its split flag, which is 0, else no flag.
+// The way back of a root that is a leaf, by its open splits: where one is open, its split flag, which is 0, else no
+// flag.
 pub(crate) fn leaf_flags(splits: u32, flags: &mut [u8]) -> Answer
     ensures { λ r. ⌜ Meets (deliverLeaf splits (now (flags .entry))) r (now (flags .exit)) ⌝ }
 {
