@@ -1,5 +1,5 @@
-// Runs document 01's cases on the proved functions, and prints the tables that they give.
-// The expected output, `stdout`, is written from the paper; for whole pictures, by an independent implementation of it.
+// Runs on the proved functions the cases that document 01 gives to a test program, P4 and P5 both ways, and a picture.
+// The expected output, `stdout`, is written from the paper. P1 to P10 are theorems (crates/unit/specs/Cases.antt).
 mod pictures;
 
 use libc::STDOUT_FILENO;
@@ -184,51 +184,11 @@ fn say_flags(flags: &[u8; 64], count: usize) {
     }
 }
 
-// P6's and P7's settings.
-fn setting_128() -> Settings
-    ensures { λ r. ⌜ r ≡ Cases.settings 128 4 8 3 128 64 128 128 ⌝ }
-{
-    Settings {
-        ctu: 128,
-        mincb: 4,
-        minqt: 8,
-        maxmtt: 3,
-        maxbt: 128,
-        maxtt: 64,
-        width: 128,
-        height: 128,
-    }
-}
-
-fn setting_32() -> Settings
-    ensures { λ r. ⌜ r ≡ Cases.settings 32 4 32 0 32 32 32 32 ⌝ }
-{
-    Settings {
-        ctu: 32,
-        mincb: 4,
-        minqt: 32,
-        maxmtt: 0,
-        maxbt: 32,
-        maxtt: 32,
-        width: 32,
-        height: 32,
-    }
-}
-
+// A unit inside the picture, and one at its edge.
 fn say_readings() {
-    let a = setting_a(64);
-    say_reading(b"P1: ", a, 0, b"\x00", 64);
-    say_reading(b"P2: ", a, 0, b"\x01\x00\x00\x00\x00", 64);
-    say_reading(
-        b"P3: ",
-        a,
-        0,
-        b"\x01\x01\x00\x01\x00\x00\x00\x00\x00\x00\x00",
-        64,
-    );
     say_reading(
         b"P4: ",
-        a,
+        setting_a(64),
         0,
         b"\x01\x01\x00\x01\x00\x00\x01\x01\x00\x00\x00\x00\x00\x00\x00",
         64,
@@ -240,16 +200,6 @@ fn say_readings() {
         b"\x00\x00\x01\x00\x00\x01\x00\x00",
         64,
     );
-    say_reading(
-        b"P6: ",
-        setting_128(),
-        0,
-        b"\x01\x00\x00\x00\x01\x00\x00",
-        64,
-    );
-    say_reading(b"P7: ", setting_32(), 0, b"", 64);
-    say_reading(b"P8: ", a, 0, b"", 64);
-    say_reading(b"P9: ", a, 0, b"\x00\x00", 64);
 }
 
 fn say_refusals() {
@@ -258,15 +208,6 @@ fn say_refusals() {
     say_reading(b"flags 1 0 0 0: ", a, 0, b"\x01\x00\x00\x00", 64);
     say_reading(b"P2 into 31 bytes: ", a, 0, b"\x01\x00\x00\x00\x00", 31);
     say_reading(b"P2 into 32 bytes: ", a, 0, b"\x01\x00\x00\x00\x00", 32);
-    say_reading(
-        b"a byte after P2's flags, into 31 bytes: ",
-        a,
-        0,
-        b"\x01\x00\x00\x00\x00\x00",
-        31,
-    );
-    say_reading(b"unit 1 of a picture of one: ", a, 1, b"\x00", 64);
-    say_reading(b"width 68: ", setting_a(68), 0, b"\x00", 64);
 }
 
 // Reads flags into a buffer of 64 bytes and turns its first rows back.
@@ -284,19 +225,9 @@ fn say_front_back(text: &[u8], s: Settings, address: usize, rows: &[u8], bytes: 
 }
 
 fn say_ways_back() {
-    let a = setting_a(64);
-    say_round(b"P1 back: ", a, 0, b"\x00", 8);
-    say_round(b"P2 back: ", a, 0, b"\x01\x00\x00\x00\x00", 32);
-    say_round(
-        b"P3 back: ",
-        a,
-        0,
-        b"\x01\x01\x00\x01\x00\x00\x00\x00\x00\x00\x00",
-        48,
-    );
     say_round(
         b"P4 back: ",
-        a,
+        setting_a(64),
         0,
         b"\x01\x01\x00\x01\x00\x00\x01\x01\x00\x00\x00\x00\x00\x00\x00",
         64,
@@ -308,18 +239,9 @@ fn say_ways_back() {
         b"\x00\x00\x01\x00\x00\x01\x00\x00",
         32,
     );
-    say_round(
-        b"P6 back: ",
-        setting_128(),
-        0,
-        b"\x01\x00\x00\x00\x01\x00\x00",
-        24,
-    );
-    say_round(b"P7 back: ", setting_32(), 0, b"", 8);
-    say_back(b"P10: ", a, 0, b"", 64);
 }
 
-// P2's rows, the first two of them exchanged, with the first missing, and with a byte more.
+// P2's rows, the first two of them exchanged.
 const EXCHANGED: [u8; 32] = [
     32,
     0,
@@ -396,72 +318,7 @@ fn say_refused_back() {
     let exchanged = EXCHANGED;
     let cuts = CUTS;
     say_back(b"P2's rows, two exchanged: ", a, 0, &exchanged, 64);
-    say_back(b"P2's rows but the first: ", a, 0, &exchanged[8..], 64);
     say_back(b"a quad's rows with binary depths: ", a, 0, &cuts, 64);
-    say_back(b"31 bytes: ", a, 0, &exchanged[..31], 64);
-    say_round(
-        b"P2 back, the unit's address 1: ",
-        a,
-        1,
-        b"\x01\x00\x00\x00\x00",
-        32,
-    );
-}
-
-fn say_answer(text: &[u8], a: Answer) {
-    say(text, a.number() as u64);
-    say(b", ", a.value() as u64);
-}
-
-// Reads flags into a buffer that holds the 1,024 rows of the largest table, and turns so many rows back: number and
-// count of each answer, and whether the flags are the same.
-fn say_both(text: &[u8], s: Settings, flags: &[u8], count: usize)
-    requires { ⌜ count ≤ 1024 ⌝ }
-{
-    let mut rows = [0u8; 8192];
-    say_answer(text, reader::read_unit(s, 0, flags, &mut rows));
-    say_all_back(s, &rows, count * 8, flags);
-    end_line();
-}
-
-fn say_all_back(s: Settings, rows: &[u8], bytes: usize, flags: &[u8]) {
-    if bytes <= rows.len() {
-        say_table_back(s, &rows[..bytes], flags);
-    }
-}
-
-fn say_table_back(s: Settings, rows: &[u8], flags: &[u8]) {
-    let mut back = [0u8; 512];
-    say_answer(b"; back: ", writer::write_flags(s, 0, rows, &mut back));
-    say(b"; the same flags: ", same(&back, flags));
-}
-
-// 1 where the flags that came back begin with those that were read.
-fn same(back: &[u8; 512], flags: &[u8]) -> u64 {
-    let mut equal = 1;
-    for i in 0..512 {
-        if i < flags.len() {
-            if back[i] != flags[i] {
-                equal = 0;
-            }
-        }
-    }
-    equal
-}
-
-// 1,024 blocks of 4 by 4: a split flag of 1 for each of the 1 + 4 + 16 + 64 + 256 quads. And 16 blocks of 8 by 8 one
-// below the other, all that a picture 8 samples wide has of its unit: their quads are inferred, and each block has one
-// flag.
-fn say_long() {
-    let mut s = setting_128();
-    s.minqt = 4;
-    s.maxmtt = 0;
-    say_both(b"1,024 rows: ", s, &[1u8; 341], 1024);
-    let mut thin = setting_128();
-    thin.maxbt = 8;
-    thin.maxtt = 8;
-    thin.width = 8;
-    say_both(b"a picture 8 samples wide: ", thin, &[0u8; 16], 16);
 }
 
 fn main() {
@@ -471,6 +328,5 @@ fn main() {
     say_refusals();
     say_ways_back();
     say_refused_back();
-    say_long();
     pictures::say_pictures();
 }

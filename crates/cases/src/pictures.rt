@@ -1,5 +1,4 @@
-// Whole pictures, unit by unit, with refused calls in between.
-use crate::camera;
+// A whole picture, unit by unit, with refused calls in between.
 use crate::end_line;
 use crate::say;
 use crate::say_rows;
@@ -45,27 +44,6 @@ fn say_unit(t: Session, address: usize, flags: &[u8], rows: &mut [u8; 64]) -> Se
     next
 }
 
-// A unit of a camera's picture. The last 15 reach past its bottom edge.
-fn say_camera_unit(t: Session, address: usize) -> Session
-    requires { ⌜ address < 1000 ⌝ }
-{
-    let mut rows = [0u8; 64];
-    if 120 <= address {
-        return say_unit(t, address, b"\x00\x00\x00\x00\x00\x00\x00\x00", &mut rows);
-    }
-    match address % 4 {
-        0 => say_unit(t, address, b"\x00", &mut rows),
-        1 => say_unit(t, address, b"\x01\x00\x00\x00\x01\x00\x00", &mut rows),
-        2 => say_unit(t, address, b"\x01\x01\x00\x00\x00\x00", &mut rows),
-        _ => say_unit(
-            t,
-            address,
-            b"\x01\x01\x01\x00\x01\x00\x00\x00\x00\x00\x00\x00",
-            &mut rows,
-        ),
-    }
-}
-
 // A complete picture, and sessions whose fields were forged.
 fn say_end(t: Session, address: usize) {
     let mut rows = [0u8; 64];
@@ -80,14 +58,6 @@ fn say_end(t: Session, address: usize) {
     cut.due = 0;
     say_called(b"  width 68: ", cut.unit(0, b"\x00", &mut rows));
     end_line();
-}
-
-fn say_camera(fresh: Session) {
-    let mut t = fresh;
-    for address in 0..135 {
-        t = say_camera_unit(t, address);
-    }
-    say_end(t, 135);
 }
 
 // A unit of the small picture, and its rows.
@@ -131,7 +101,6 @@ fn say_opened(text: &[u8], s: Settings) -> Session {
 
 pub(crate) fn say_pictures() {
     say_opened(b"a picture of width 68: ", setting_a(68));
-    say_camera(say_opened(b"a camera's picture: ", camera()));
     let mut small = setting_a(72);
     small.height = 72;
     say_small(say_opened(b"a picture of 72 by 72: ", small));
