@@ -1,4 +1,5 @@
-//! Finds the engine's static library, and has it proved and built where it is missing.
+//! Finds the engine's static library; the repository's own is proved and built first where it is
+//! missing or older than the sources.
 
 use std::env;
 use std::path::{Path, PathBuf};
@@ -26,33 +27,27 @@ fn given_folder(folder: PathBuf) -> PathBuf {
     folder
 }
 
-/// The repository's own folder, filled if need be.
+/// The repository's own folder, brought up to date.
 fn repository_folder() -> PathBuf {
     let manifest = env::var("CARGO_MANIFEST_DIR").expect("cargo sets the manifest's folder");
     let root = Path::new(&manifest).join("../..");
-    let folder = root.join("target/staticlib");
-    if !folder.join(ARCHIVE).is_file() {
-        println!("cargo:warning=proving and building the engine; this takes some minutes");
-        prove(&root);
+    for source in ["crates", "crates.txt", "bin/archive"] {
+        println!("cargo:rerun-if-changed={}", root.join(source).display());
     }
-    assert!(
-        folder.join(ARCHIVE).is_file(),
-        "{ARCHIVE} is missing: run `rt staticlib colwythar` in the repository's root, \
-         or set COLWYTHAR_LIB_DIR to its folder"
-    );
-    folder
+    bring_up_to_date(&root);
+    root.join("target/staticlib")
 }
 
-/// Runs the engine's toolchain in the repository's root.
-fn prove(root: &Path) {
-    let done = Command::new("rt").args(["staticlib", "colwythar"]).current_dir(root).status();
+/// Has the archive proved and built, which takes some minutes, unless it is that of the sources.
+fn bring_up_to_date(root: &Path) {
+    let done = Command::new(root.join("bin/archive")).status();
     let reason = match done {
         Ok(status) if status.success() => return,
         Ok(status) => status.to_string(),
         Err(error) => error.to_string(),
     };
     panic!(
-        "`rt staticlib colwythar` failed ({reason}): run it in the repository's root and see why, \
+        "`bin/archive` failed ({reason}): run it in the repository's root and see why, \
          or set COLWYTHAR_LIB_DIR to a folder that has {ARCHIVE}"
     );
 }

@@ -28,7 +28,7 @@
 //! Single units need no session: [`read_unit`] and [`write_flags`].
 //!
 //! The static library is looked for in the folder `COLWYTHAR_LIB_DIR`, else in the repository's
-//! `target/staticlib`; if it is not there, the build script has it proved and built.
+//! `target/staticlib`, where the build script has it proved and built anew whenever its sources change.
 #![warn(missing_docs)]
 
 pub mod raw;

@@ -3,13 +3,16 @@
 use std::error::Error;
 use std::fmt;
 
-/// A refusal: its number and its place, 0 where the number has none.
+/// A refusal: its number and its place, 0 where the number has none. In its sentence, M is the
+/// greatest depth of binary and ternary splits.
 ///
 /// ```
 /// use colwythar::Refusal;
 ///
 /// let refusal = Refusal { number: 14, place: 4 };
 /// assert_eq!(refusal.to_string(), "refusal 14: the row buffer is too short, 4 rows are needed");
+/// let refusal = Refusal { number: 12, place: 2 };
+/// assert_eq!(refusal.to_string(), "refusal 12: flag 2, counted from 0, is neither 0 nor 1");
 /// ```
 #[derive(Clone, Copy, Debug, PartialEq, Eq, Hash)]
 pub struct Refusal {
@@ -36,12 +39,12 @@ impl Refusal {
             1 => "the CTU side is not 32, 64 or 128",
             2 => "MinCb is no power of two from 4 to the smaller of 64 and the CTU side",
             3 => "MinQt is no power of two from MinCb to the smaller of 64 and the CTU side",
-            4 => "the greatest multi-type depth is too great",
+            4 => "M is above 2 x (exponent of the CTU side - exponent of MinCb)",
             5 => "MaxBt is no power of two from MinQt to the CTU side",
             6 => "MaxTt is no power of two from MinQt to the smaller of 64 and the CTU side",
-            7 => "the width is 0, above 16384 or no multiple of the larger of 8 and MinCb",
-            8 => "the height is 0, above 16384 or no multiple of the larger of 8 and MinCb",
-            9 => "without multi-type splits, width and height have to be multiples of MinQt",
+            7 => "the width is 0, above 16384, or no multiple of the larger of 8 and MinCb",
+            8 => "the height is 0, above 16384, or no multiple of the larger of 8 and MinCb",
+            9 => "M is 0, and the width or the height is no multiple of MinQt",
             10 => "the picture has no such unit",
             16 => "no flags give these rows",
             20 => "the picture is complete",
@@ -56,9 +59,12 @@ impl fmt::Display for Refusal {
         let Self { number, place } = self;
         write!(f, "refusal {number}: ")?;
         match number {
-            11 => write!(f, "the flags end after {place} bytes, before the tree does"),
-            12 => write!(f, "byte {place} is no flag"),
-            13 => write!(f, "the tree ends before byte {place} of the flags"),
+            11 => write!(f, "more flags are needed, there are only {place}"),
+            12 => write!(f, "flag {place}, counted from 0, is neither 0 nor 1"),
+            13 => {
+                write!(f, "too many flags, the first that is too many is flag {place}")?;
+                f.write_str(", counted from 0")
+            }
             14 => write!(f, "the row buffer is too short, {place} rows are needed"),
             15 => write!(f, "the table ends within a row, after {place} whole ones"),
             17 => write!(f, "the flag buffer is too short, {place} flags are needed"),

@@ -27,3 +27,18 @@ fn places_are_named() {
         assert!(text.contains("4711"), "{text}");
     }
 }
+
+#[test]
+fn sentences_that_say_a_limit_or_a_place() {
+    let sentences = [
+        (4, 0, "refusal 4: M is above 2 x (exponent of the CTU side - exponent of MinCb)"),
+        (9, 0, "refusal 9: M is 0, and the width or the height is no multiple of MinQt"),
+        (11, 4, "refusal 11: more flags are needed, there are only 4"),
+        (12, 2, "refusal 12: flag 2, counted from 0, is neither 0 nor 1"),
+        (13, 5, "refusal 13: too many flags, the first that is too many is flag 5, counted from 0"),
+        (21, 0, "refusal 21: another unit is due, unit 0"),
+    ];
+    for (number, place, sentence) in sentences {
+        assert_eq!(Refusal { number, place }.to_string(), sentence);
+    }
+}

@@ -1,0 +1,59 @@
+//! `colwythar draw`: the coding blocks of each unit as a picture.
+
+use std::io::{self, Write};
+
+use colwythar::Settings;
+
+use super::{Command, Context, Entry, Sum, Unit};
+use crate::{output, svg, Complaint};
+
+pub const ENTRY: Entry = Entry {
+    name: "draw",
+    about: "draw the coding blocks of each unit, as an SVG picture",
+    output: Some("OUT.svg"),
+    start: || Box::new(Draw::default()),
+};
+
+/// The pictures so far. They are written at the end, as the size of the drawing comes first.
+#[derive(Default)]
+struct Draw {
+    pictures: Vec<svg::Picture>,
+}
+
+impl Command for Draw {
+    /// A picture with settings that are not accepted has no units, and is not drawn.
+    fn picture(
+        &mut self,
+        settings: &Settings,
+        accepted: bool,
+        _: &mut Context<'_>,
+    ) -> io::Result<()> {
+        if accepted {
+            self.pictures.push(svg::Picture::new(settings));
+        }
+        Ok(())
+    }
+
+    fn unit(&mut self, unit: &Unit<'_>, _: &mut Context<'_>) -> io::Result<()> {
+        if let Some(picture) = self.pictures.last_mut() {
+            picture.blocks.extend(unit.rows().map(|row| svg::Block { unit: unit.address, row }));
+        }
+        Ok(())
+    }
+
+    fn complaint(&mut self, complaint: &Complaint, context: &mut Context<'_>) -> io::Result<()> {
+        output::say(context.err, &format!("{}: {complaint}", context.name));
+        Ok(())
+    }
+
+    fn end_of_file(&mut self, _: &Sum, _: &mut Context<'_>) -> io::Result<()> {
+        Ok(())
+    }
+
+    fn finish(&mut self, out: &mut dyn Write) -> io::Result<()> {
+        if self.pictures.is_empty() {
+            return Ok(());
+        }
+        svg::write(&self.pictures, out)
+    }
+}

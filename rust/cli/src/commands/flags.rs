@@ -1,0 +1,39 @@
+//! `colwythar flags`: the flags of each unit.
+
+use std::io;
+
+use colwythar::Settings;
+
+use super::{Command, Context, Entry, Sum, Unit};
+use crate::{printing, Complaint};
+
+pub const ENTRY: Entry = Entry {
+    name: "flags",
+    about: "print the flags of each unit, as unit lines",
+    output: None,
+    start: || Box::new(Flags),
+};
+
+struct Flags;
+
+impl Command for Flags {
+    fn begin(&mut self, context: &mut Context<'_>) -> io::Result<()> {
+        printing::heading(context)
+    }
+
+    fn picture(&mut self, settings: &Settings, _: bool, to: &mut Context<'_>) -> io::Result<()> {
+        printing::picture(settings, to.out)
+    }
+
+    fn unit(&mut self, unit: &Unit<'_>, context: &mut Context<'_>) -> io::Result<()> {
+        printing::unit_line(unit, context.out)
+    }
+
+    fn complaint(&mut self, complaint: &Complaint, context: &mut Context<'_>) -> io::Result<()> {
+        writeln!(context.out, "# {complaint}")
+    }
+
+    fn end_of_file(&mut self, _: &Sum, _: &mut Context<'_>) -> io::Result<()> {
+        Ok(())
+    }
+}

@@ -1,0 +1,97 @@
+//! The subcommands: what they have in common, and the list of them.
+
+mod draw;
+mod flags;
+mod table;
+
+use std::io::{self, Write};
+
+use colwythar::{Row, Settings};
+
+use crate::Complaint;
+
+/// All subcommands, in the order of the help text.
+pub const COMMANDS: [Entry; 3] = [table::ENTRY, flags::ENTRY, draw::ENTRY];
+
+/// What the help text says of a subcommand, and how it begins.
+pub struct Entry {
+    /// The word on the command line.
+    pub name: &'static str,
+    /// What it does, for the help text.
+    pub about: &'static str,
+    /// What `-o` is to name, where the subcommand has this option.
+    pub output: Option<&'static str>,
+    /// The subcommand before the first file.
+    pub start: fn() -> Box<dyn Command>,
+}
+
+/// A subcommand: what it does with what stands in the files, in the order in which it stands there.
+///
+/// An error is one of writing; nothing is called after it.
+pub trait Command {
+    /// A file begins.
+    fn begin(&mut self, _context: &mut Context<'_>) -> io::Result<()> {
+        Ok(())
+    }
+
+    /// The picture line. Where its settings are not accepted, a complaint follows.
+    fn picture(
+        &mut self,
+        settings: &Settings,
+        accepted: bool,
+        context: &mut Context<'_>,
+    ) -> io::Result<()>;
+
+    /// A unit that the engine accepted, whichever way it was given.
+    fn unit(&mut self, unit: &Unit<'_>, context: &mut Context<'_>) -> io::Result<()>;
+
+    /// Something that was not accepted.
+    fn complaint(&mut self, complaint: &Complaint, context: &mut Context<'_>) -> io::Result<()>;
+
+    /// The end of a file that was read to its end.
+    fn end_of_file(&mut self, sum: &Sum, context: &mut Context<'_>) -> io::Result<()>;
+
+    /// The end of the last file.
+    fn finish(&mut self, _out: &mut dyn Write) -> io::Result<()> {
+        Ok(())
+    }
+}
+
+/// The file in reading, and where a subcommand writes to.
+pub struct Context<'a> {
+    /// The file's name, on one line.
+    pub name: &'a str,
+    /// Are there more files than this one?
+    pub several: bool,
+    /// Standard output, or the file that `-o` names.
+    pub out: &'a mut dyn Write,
+    /// Standard error.
+    pub err: &'a mut dyn Write,
+}
+
+/// An accepted unit.
+pub struct Unit<'a> {
+    /// Its address.
+    pub address: u64,
+    /// Its flags, a byte each.
+    pub flags: &'a [u8],
+    /// Its rows, 8 bytes each.
+    pub rows: &'a [u8],
+}
+
+impl Unit<'_> {
+    /// The rows in order.
+    pub fn rows(&self) -> impl ExactSizeIterator<Item = Row> + '_ {
+        colwythar::rows(self.rows)
+    }
+}
+
+/// What was accepted of a file.
+pub struct Sum {
+    /// How many units.
+    pub units: u64,
+    /// How many rows they have.
+    pub rows: u64,
+    /// Where there was a unit line: the address that is due, and how many units the picture has.
+    pub due: Option<(u64, u64)>,
+}

@@ -1,0 +1,217 @@
+//! A file's lines, given to the engine in order, and what a command is told of them.
+
+use std::io::{self, BufRead};
+
+use colwythar::{write_flags, Refusal, Row, Session, Settings};
+
+use crate::table::Table;
+use crate::text::{scan, Line, Lines, Malformed, Reason, Subject, Text};
+use crate::{Command, Complaint, Context, Place, Sum, Unit};
+
+/// A unit has at most 1,024 rows of 8 bytes.
+const ROW_BYTES: usize = 8 * 1024;
+
+/// A unit has at most 4,094 flags.
+const FLAGS: usize = 4094;
+
+/// Reading a file came to an end before the file did.
+#[derive(Debug)]
+pub enum Trouble {
+    /// The file cannot be read.
+    Input(io::Error),
+    /// What a command says cannot be written.
+    Output(io::Error),
+}
+
+/// Reads a file and tells the command what stands in it. Answers whether all of it was accepted.
+///
+/// # Errors
+///
+/// What the input or the output answers.
+pub fn read(
+    input: impl BufRead,
+    command: &mut dyn Command,
+    context: &mut Context<'_>,
+) -> Result<bool, Trouble> {
+    let mut reader = Reader::new(command, context);
+    let mut lines = Lines::new(input);
+    while let Some(text) = lines.advance().map_err(Trouble::Input)? {
+        reader.line(text).map_err(Trouble::Output)?;
+        if reader.stopped {
+            break;
+        }
+    }
+    reader.end().map_err(Trouble::Output)?;
+    Ok(reader.accepted)
+}
+
+/// A file's state between its lines.
+struct Reader<'a, 'b> {
+    command: &'a mut dyn Command,
+    context: &'a mut Context<'b>,
+    /// Once a picture line opened it.
+    session: Option<Session>,
+    /// The table that is not ended yet.
+    table: Table,
+    /// The flags of the line.
+    flags: Vec<u8>,
+    /// What the engine writes to.
+    engine_rows: Box<[u8; ROW_BYTES]>,
+    engine_flags: Box<[u8; FLAGS]>,
+    /// Was there a unit line?
+    unit_lines: bool,
+    units: u64,
+    rows: u64,
+    /// No complaint so far.
+    accepted: bool,
+    /// No further line is looked at.
+    stopped: bool,
+}
+
+impl<'a, 'b> Reader<'a, 'b> {
+    fn new(command: &'a mut dyn Command, context: &'a mut Context<'b>) -> Self {
+        Self {
+            command,
+            context,
+            session: None,
+            table: Table::default(),
+            flags: Vec::new(),
+            engine_rows: Box::new([0; ROW_BYTES]),
+            engine_flags: Box::new([0; FLAGS]),
+            unit_lines: false,
+            units: 0,
+            rows: 0,
+            accepted: true,
+            stopped: false,
+        }
+    }
+
+    fn line(&mut self, text: Text<'_>) -> io::Result<()> {
+        match scan(text, &mut self.flags) {
+            Ok(Line::Blank) => Ok(()),
+            Ok(Line::Picture(settings)) => self.picture(text.number, settings),
+            Ok(Line::Unit(address)) => self.unit(text.number, address.into()),
+            Ok(Line::Row(address, row)) => self.row(text.number, address.into(), row),
+            Err(malformed) => self.malformed(text.number, malformed),
+        }
+    }
+
+    /// A picture line opens the session.
+    fn picture(&mut self, line: u64, settings: Settings) -> io::Result<()> {
+        self.end_table()?;
+        if self.session.is_some() {
+            return self.malformed(line, Reason::Second.into());
+        }
+        let opened = Session::open(settings);
+        self.command.picture(&settings, opened.is_ok(), self.context)?;
+        match opened {
+            Ok(session) => {
+                self.session = Some(session);
+                Ok(())
+            }
+            Err(refusal) => self.stop(Complaint::Picture { line, refusal }),
+        }
+    }
+
+    /// A unit line's flags become rows, by the file's one session.
+    fn unit(&mut self, line: u64, address: u64) -> io::Result<()> {
+        self.end_table()?;
+        let Some(session) = &mut self.session else {
+            return self.malformed(line, Reason::First.into());
+        };
+        self.unit_lines = true;
+        match session.unit(address, &self.flags, &mut *self.engine_rows) {
+            Ok(count) => {
+                let rows = &self.engine_rows[..8 * count];
+                self.units += 1;
+                self.rows += count as u64;
+                self.command.unit(&Unit { address, flags: &self.flags, rows }, self.context)
+            }
+            Err(refusal) => self.refused((line, line), address, refusal),
+        }
+    }
+
+    /// A row of the table that is not ended, or the first of the next one.
+    fn row(&mut self, line: u64, address: u64, row: Row) -> io::Result<()> {
+        if self.session.is_none() {
+            return self.malformed(line, Reason::First.into());
+        }
+        if !self.table.is_of(address) {
+            self.end_table()?;
+        }
+        if self.table.push(line, address, row) {
+            return Ok(());
+        }
+        self.say_malformed(line, address, Reason::Rows)
+    }
+
+    /// The table that was not ended, if there was one, is whole: its rows become flags.
+    fn end_table(&mut self) -> io::Result<()> {
+        let Some(session) = &self.session else { return Ok(()) };
+        if self.table.is_empty() {
+            return Ok(());
+        }
+        let (address, rows) = (self.table.address(), self.table.bytes());
+        match write_flags(session.settings(), address, rows, &mut *self.engine_flags) {
+            Ok(count) => {
+                let flags = &self.engine_flags[..count];
+                self.units += 1;
+                self.rows += self.table.len() as u64;
+                self.command.unit(&Unit { address, flags, rows }, self.context)?;
+            }
+            Err(refusal) => self.refused(self.table.lines(), address, refusal)?,
+        }
+        self.table.clear();
+        Ok(())
+    }
+
+    fn refused(&mut self, lines: (u64, u64), address: u64, refusal: Refusal) -> io::Result<()> {
+        let units = self.session.as_ref().map_or(0, Session::unit_count);
+        self.complain(Complaint::Unit { lines, address, units, refusal })
+    }
+
+    /// A line that is not taken ends the table before it, unless it begins as a row of it: then the
+    /// table is not whole.
+    fn malformed(&mut self, line: u64, malformed: Malformed) -> io::Result<()> {
+        let unit = malformed.row_of.map(u64::from);
+        if !unit.is_some_and(|unit| self.table.is_of(unit)) {
+            self.end_table()?;
+        }
+        self.say_malformed(line, unit.unwrap_or(0), malformed.reason)
+    }
+
+    /// Says why a line is not taken; `unit` is the address of the row that it is.
+    fn say_malformed(&mut self, line: u64, unit: u64, reason: Reason) -> io::Result<()> {
+        let place = match reason.subject() {
+            Subject::Line => Place::Line,
+            Subject::Flag => Place::Flag(self.flags.len()),
+            Subject::Row => Place::Row { row: self.table.len(), unit },
+        };
+        self.stop(Complaint::Malformed { line, place, reason })
+    }
+
+    /// After this complaint no further line is looked at.
+    fn stop(&mut self, complaint: Complaint) -> io::Result<()> {
+        self.stopped = true;
+        self.complain(complaint)
+    }
+
+    fn complain(&mut self, complaint: Complaint) -> io::Result<()> {
+        self.accepted = false;
+        self.command.complaint(&complaint, self.context)
+    }
+
+    /// The end of the file.
+    fn end(&mut self) -> io::Result<()> {
+        if self.stopped {
+            return Ok(());
+        }
+        self.end_table()?;
+        let Some(session) = &self.session else {
+            return self.complain(Complaint::Nothing);
+        };
+        let due = self.unit_lines.then(|| (session.due(), session.unit_count()));
+        let sum = Sum { units: self.units, rows: self.rows, due };
+        self.command.end_of_file(&sum, self.context)
+    }
+}

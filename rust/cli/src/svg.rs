@@ -1,0 +1,140 @@
+//! The drawing: one rectangle a coding block, darker the deeper, over the grids of units and of
+//! pipeline units.
+
+use std::io::{self, Write};
+
+use colwythar::{Row, Settings};
+
+/// The side of a pipeline unit: document 01's squares of 64 by 64, laid side by side from (0, 0).
+const PIPELINE: u32 = 64;
+
+/// The space between two pictures, in samples.
+const GAP: u32 = 8;
+
+/// A picture and the coding blocks of its units.
+pub struct Picture {
+    ctu: u32,
+    width: u32,
+    height: u32,
+    /// The blocks, in the order in which they are drawn.
+    pub blocks: Vec<Block>,
+}
+
+/// A coding block of a unit.
+#[derive(Clone, Copy, Debug, PartialEq, Eq)]
+pub struct Block {
+    /// Address of the unit.
+    pub unit: u64,
+    /// Its place, size and depths.
+    pub row: Row,
+}
+
+impl Picture {
+    /// A picture without blocks. The settings are accepted ones.
+    pub fn new(settings: &Settings) -> Self {
+        let Settings { ctu, width, height, .. } = *settings;
+        Self { ctu, width, height, blocks: Vec::new() }
+    }
+}
+
+/// Writes an SVG document with the pictures one below another; a block's title says its unit,
+/// place, size and depths.
+///
+/// # Errors
+///
+/// What the output answers.
+pub fn write(pictures: &[Picture], out: &mut dyn Write) -> io::Result<()> {
+    let longest = pictures.iter().map(|picture| picture.width.max(picture.height)).max();
+    let scale = display_scale(longest.unwrap_or(0));
+    write_head(pictures, scale, out)?;
+    let mut y = 0;
+    for picture in pictures {
+        writeln!(out, "<g transform=\"translate(0 {y})\">")?;
+        write_picture(picture, out)?;
+        writeln!(out, "</g>")?;
+        y += u64::from(picture.height + GAP);
+    }
+    writeln!(out, "</svg>")
+}
+
+/// Small pictures are shown larger.
+fn display_scale(longest: u32) -> u32 {
+    (640 / (longest + 2)).clamp(1, 6)
+}
+
+/// The size of the whole, with a margin of 1, and the style.
+fn write_head(pictures: &[Picture], scale: u32, out: &mut dyn Write) -> io::Result<()> {
+    let width = pictures.iter().map(|picture| u64::from(picture.width)).max().unwrap_or(0) + 2;
+    let heights: u64 = pictures.iter().map(|picture| u64::from(picture.height)).sum();
+    let height = heights + u64::from(GAP) * (pictures.len() as u64).saturating_sub(1) + 2;
+    let factor = u64::from(scale);
+    writeln!(
+        out,
+        "<svg xmlns=\"http://www.w3.org/2000/svg\" width=\"{}\" height=\"{}\" \
+         viewBox=\"-1 -1 {width} {height}\">",
+        width * factor,
+        height * factor
+    )?;
+    writeln!(out, "<style>{}</style>", style(scale))
+}
+
+/// The line widths are those seen on the screen, whatever the size of the picture.
+fn style(scale: u32) -> String {
+    let seen = |width: f64| width / f64::from(scale);
+    format!(
+        ".block{{stroke:#1b3a57;stroke-width:{}}}\
+         .pipeline{{fill:none;stroke:#c2571a;stroke-width:{};stroke-dasharray:{} {}}}\
+         .unit{{fill:none;stroke:#10202e;stroke-width:{}}}\
+         .picture{{fill:#fff;stroke:none}}",
+        seen(0.6),
+        seen(1.0),
+        seen(4.0),
+        seen(3.0),
+        seen(1.6)
+    )
+}
+
+fn write_picture(picture: &Picture, out: &mut dyn Write) -> io::Result<()> {
+    let Picture { ctu, width, height, ref blocks } = *picture;
+    writeln!(out, "<rect class=\"picture\" width=\"{width}\" height=\"{height}\"/>")?;
+    for block in blocks {
+        write_block(block, out)?;
+    }
+    write_grid("pipeline", PIPELINE, (width, height), out)?;
+    write_grid("unit", ctu, (width, height), out)
+}
+
+fn write_block(block: &Block, out: &mut dyn Write) -> io::Result<()> {
+    let Block { unit, row } = block;
+    let Row { x, y, qt_depth, mtt_depth, .. } = row;
+    let (width, height) = (row.width(), row.height());
+    writeln!(
+        out,
+        "<rect class=\"block\" x=\"{x}\" y=\"{y}\" width=\"{width}\" height=\"{height}\" \
+         fill=\"hsl(207 46% {}%)\"><title>unit {unit}: {width} by {height} at {x}, {y}; \
+         QT depth {qt_depth}, MTT depth {mtt_depth}</title></rect>",
+        lightness(u32::from(*qt_depth) + u32::from(*mtt_depth))
+    )
+}
+
+/// Darker the deeper; a unit's blocks are eleven splits deep at most.
+fn lightness(depth: u32) -> u32 {
+    95 - 5 * depth.min(11)
+}
+
+/// The lines of a grid and the picture's frame.
+fn write_grid(
+    class: &str,
+    side: u32,
+    (width, height): (u32, u32),
+    out: &mut dyn Write,
+) -> io::Result<()> {
+    write!(out, "<path class=\"{class}\" d=\"M0 0H{width}V{height}H0Z")?;
+    for x in (side..width).step_by(side as usize) {
+        write!(out, "M{x} 0V{height}")?;
+    }
+    for y in (side..height).step_by(side as usize) {
+        write!(out, "M0 {y}H{width}")?;
+    }
+    writeln!(out, "\"/>")
+}

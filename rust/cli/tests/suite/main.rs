@@ -1,0 +1,11 @@
+//! Tests of the program, run as a process; what is expected was written down by hand.
+
+mod command_line;
+mod drawing;
+mod files;
+mod limits;
+mod lines;
+mod output;
+mod program;
+mod round_trips;
+mod stored;
