@@ -1,0 +1,11 @@
+pub mod Order
+pub mod Tiling
+pub mod Counts
+pub mod Parts
+pub mod Forests
+pub mod Laws
+pub mod Units
+pub mod Covered
+pub mod Complete
+pub mod Legible
+pub mod Demand

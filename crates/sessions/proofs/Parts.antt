@@ -1,0 +1,67 @@
+-- The laws of coding trees, for the tree of one part.
+use Prim.Native.Nat.{ℕ, _+_, _*_, _≤_}
+use mathlib.Core.Path.{_≡_, refl, sym, ap, _∙_}
+use mathlib.Core.Bool.{true}
+use mathlib.Core.List.{List, _++_}
+use mathlib.Core.Logic.{_⊎_}
+use Rattle.sides.proofs.Bools.{clash}
+use Rattle.tree.specs.declared.Node.{Node}
+use Rattle.tree.specs.declared.Direction.{Direction}
+use Rattle.tree.specs.Kind.{Kind}
+use Rattle.tree.specs.Splits.{along}
+use Rattle.tree.specs.Children.{cornerInside}
+use Rattle.tree.specs.Rows.{Row}
+use Rattle.tree.specs.Back.{backNode}
+use Rattle.tree.specs.Tree.{Tree, none, skip, node, flagsOf, rowsOf}
+use Rattle.laws.specs.Every.{Every}
+use Rattle.laws.specs.Geometry.{rectangle, copies}
+use Rattle.laws.proofs.Directions.{corner}
+use Rattle.laws.proofs.Multiples.{Multiple, Fold}
+use Rattle.laws.proofs.Shape.{Shape}
+use Rattle.laws.proofs.Cover as cover
+use Rattle.laws.proofs.Pipeline.{in-pipeline}
+use Rattle.laws.proofs.Turning.{TurningIsTree, kind-turning}
+use Rattle.sessions.specs.Samples.{InPipeline}
+
+-- What the laws ask of a kind and a root: smallest sides of 4 and more, the picture's sides, a square at a multiple of
+-- its side, and pipeline units that are no smaller than it or have the side 64.
+pub record GoodRoot (width height cell : ℕ) (k : Kind) (n : Node) : Type 0 where
+  pub leastCb : 4 ≤ k .limits .mincb
+  pub leastQt : 4 ≤ k .limits .minqt
+  pub wide : k .limits .width ≡ width
+  pub high : k .limits .height ≡ height
+  pub shape : Shape n
+  pub square : n .w ≡ n .h
+  pub fits : n .w + n .h + n .qt + n .mtt ≤ 256
+  pub at : (e : Direction) → Multiple (along e n) (corner e n)
+  pub fold : Fold 4 cell
+  pub held : (n .w ≤ cell) ⊎ (cell ≡ 64)
+
+module _ {width height cell : ℕ} {k : Kind} {n : Node} (s : GoodRoot width height cell k n) where
+  pub part-covered : (t : Tree k n) (px py : ℕ)
+      → copies px py (rowsOf t) ≡ rectangle (n .x) (n .y) (n .w) (n .h) px py * rectangle 0 0 width height px py
+  part-covered t px py = rw (← s .wide, ← s .high) (cover.covered k (s .leastCb) (s .leastQt) (s .shape) t px py)
+
+  pub part-pipeline : (t : Tree k n) → Every (InPipeline cell) (rowsOf t)
+  part-pipeline t = in-pipeline k (s .leastCb) (s .leastQt) (s .shape) (s .square) (s .at) t cell (s .fold) (s .held)
+
+  turning : cornerInside (k .limits) n ≡ true → TurningIsTree k n
+  turning here = kind-turning k (s .leastCb) (s .leastQt) n (s .shape) here (s .fits)
+
+  -- a tree's rows, whatever rows follow them, say its flags and the rows that follow
+  module _ (more others : List Row) where
+    turned : cornerInside (k .limits) n ≡ true → (t u : Tree k n) → rowsOf t ++ more ≡ rowsOf u ++ others
+        → (flagsOf t ≡ flagsOf u) × (more ≡ others)
+    turned here t u e =
+        let f = sym (turning here .complete t more) ∙ ap (backNode k n) e ∙ turning here .complete u others in
+        let g = ap (λ r. r .end) f in
+        (ap (λ r. r .given) f, cc)
+
+    pub part-legible : (t u : Tree k n) → rowsOf t ++ more ≡ rowsOf u ++ others
+        → (flagsOf t ≡ flagsOf u) × (more ≡ others)
+    unfolding flagsOf rowsOf
+    part-legible (skip out none) (skip out′ none) e = (refl, e)
+    part-legible (skip out none) (node d here ok kids rest) e = clash here out
+    part-legible (node d here ok kids rest) (skip out none) e = clash here out
+    part-legible (node d here ok kids rest) (node d′ here′ ok′ kids′ rest′) e =
+        turned here (node d here ok kids rest) (node d′ here′ ok′ kids′ rest′) e
