@@ -1,82 +1,65 @@
--- Demand 3, proved.
-use Prim.Native.Nat.{ℕ}
+-- Demand 3, proved: it is that of `sessions`, for the greyscale session, whose addresses follow each other.
+use Prim.Native.Nat.{ℕ, _+_}
 use mathlib.Core.Path.{_≡_, refl, subst}
 use mathlib.Core.Bool.{Bool, true, false, cond}
 use mathlib.Core.List.{List}
-use mathlib.Core.Logic.{inr}
 use lib.Dec.{eqb}
 use borrow.Author.Tests.{eqb-true}
-use native.Mathlib.Omega.{arith}
 use Rattle.settings.specs.declared.Settings.{Settings}
 use Rattle.settings.specs.Checks.{settingsRefusal}
-use Rattle.settings.proofs.Passed.{Passed, passed}
-use Rattle.tree.specs.declared.Direction.{Direction}
-use Rattle.tree.specs.Splits.{along}
-use Rattle.laws.specs.Every.{Every, every-none, every-more}
-use Rattle.laws.proofs.Every.{every-join}
-use Rattle.laws.proofs.Directions.{corner}
-use Rattle.laws.proofs.Multiples.{Multiple}
-use Rattle.laws.proofs.Pipeline.{fold-64, in-pipeline}
+use Rattle.settings.specs.Units.{unitCount, unitRefusal}
+use Rattle.settings.proofs.Passed.{passed, usable}
+use Rattle.settings.proofs.Grid.{unit-taken}
 use Rattle.laws.proofs.Tests.{never}
-use Rattle.unit.specs.Luma.{kindOf, rootAt}
-use Rattle.unit.proofs.Roots.{root-of}
-use Rattle.unit.proofs.RoundTrips.{tree-back}
+use Rattle.unit.specs.Reader.{readUnit}
+use Rattle.unit.specs.Writer.{writeFlags}
+use Rattle.sessions.proofs.Order.{raster}
+use Rattle.sessions.proofs.Demand as sessions
 use Rattle.picture.specs.declared.Session.{Session}
 use Rattle.picture.specs.declared.Opened.the-variants.{Fresh, Refused}
-use Rattle.picture.specs.Session.{Call, opening}
-use Rattle.picture.specs.Lists.{Taken, rowsOfUnit, joined}
-use Rattle.picture.specs.Demand.{InPipeline, TurnsBack, After, Demand3}
-use Rattle.picture.proofs.Units.{UnitRead, Units, no-units, a-unit, accepted-units}
-use Rattle.picture.proofs.Covered.{units-covered, units-complete}
-use Rattle.picture.proofs.Legible.{flags-legible, rows-legible}
+use Rattle.picture.specs.Session.{Call, opening, badSession, isComplete, unitCall, following}
+use Rattle.picture.specs.OneTree.{greyscale}
+use Rattle.picture.specs.Demand.{After, Demand3}
+use Rattle.picture.proofs.OneTree.{UnitLaws, SessionLaws, one-tree}
+use Rattle.picture.proofs.StateCalls.{state-laws}
+use Rattle.picture.proofs.LumaUnits.{luma-laws}
 
 module _ (s : Settings) where
-  -- ---- the pipeline
+  abbrev at-due : ℕ → Session
+  at-due a = record { settings = s; due = a }
 
-  unit-pipeline : {a : ℕ} {u : Taken} → UnitRead s a u → Every InPipeline (rowsOfUnit u)
-  unit-pipeline {a} {u} x =
-      let r = root-of s a (x .read .there) in
-      let cb = r .valid .leastCb in
-      let qt = r .valid .leQt in
-      let at : (e : Direction) → Multiple (along e (rootAt s a)) (corner e (rootAt s a)) = λ e. rw (r .side e) (r .at e) in
-      rw (x .read .rows) (in-pipeline (kindOf s) cb (omega arith) (r .good .shape) refl at (x .read .tree) 64 fold-64 (inr refl))
+  greyscale-units : settingsRefusal s ≡ 0 → UnitLaws (greyscale s)
+  unfolding readUnit writeFlags
+  greyscale-units ok = luma-laws s (unitRefusal s) (usable (passed s ok)) (λ a h. unit-taken s a h .1)
 
-  units-pipeline : {k : ℕ} {us : List Taken} → Units s k us → Every InPipeline (joined us)
-  unfolding joined
-  units-pipeline no-units = every-none
-  units-pipeline (a-unit x rest) = every-join (unit-pipeline x) (units-pipeline rest)
+  greyscale-session : SessionLaws (greyscale s) unitCall following (λ a. a + 1) (λ a t. t ≡ at-due a)
+  unfolding unitCall
+  greyscale-session =
+      state-laws (greyscale s) at-due (λ a. badSession (at-due a)) (λ a. isComplete (at-due a)) (λ a c. refl)
+      (λ a number place. refl) (λ a m. refl)
 
-  -- ---- the way back
-
-  unit-back : {a : ℕ} {u : Taken} → UnitRead s a u → TurnsBack s u
-  unit-back {a} x buffer room = rw (x .at) (tree-back s a (x .read) buffer room)
-
-  units-back : {k : ℕ} {us : List Taken} → Units s k us → Every (TurnsBack s) us
-  units-back no-units = every-none
-  units-back (a-unit {u = u} x rest) = every-more {a = u} (unit-back x) (units-back rest)
-
-  -- ---- all five
-
-  after : Passed s → (calls : List Call) → After s (record { settings = s; due = 0 }) calls
-  after p calls =
-      let units = accepted-units s 0 calls in
+  after : settingsRefusal s ≡ 0 → (calls : List Call) → After s (at-due 0) calls
+  after ok calls =
+      let laws = one-tree (greyscale s) (greyscale-units ok) (raster (unitCount s)) greyscale-session in
+      let a = sessions.after laws refl calls in
       record {
-        covered = λ px py. units-covered s px py p units;
-        complete = λ all px py. units-complete s px py p units all;
-        pipeline = units-pipeline units;
-        back = units-back units;
-        legible = λ others. let o = accepted-units s 0 others in (flags-legible s units o, rows-legible s units o);
+        covered = a .covered tt;
+        complete = a .complete;
+        pipeline = a .pipeline tt;
+        back = a .back;
+        legible = λ others. let l = a .legible others in (λ e. l .0 (λ i. e), λ e. l .1 e tt);
       }
 
 -- a fresh session has the settings given, which pass, and address 0 due
-fresh : (s : Settings) (t : Session) → opening s ≡ Fresh t → (settingsRefusal s ≡ 0) × (record { settings = s; due = 0 } ≡ t)
+fresh : (s : Settings) (t : Session) → opening s ≡ Fresh t → (settingsRefusal s ≡ 0) × (at-due s 0 ≡ t)
 unfolding opening
 fresh s t e = go (eqb (settingsRefusal s) 0) refl e
   where
-    go : (b : Bool) → eqb (settingsRefusal s) 0 ≡ b → cond b (Fresh (record { settings = s; due = 0 })) (Refused (settingsRefusal s)) ≡ Fresh t
-        → (settingsRefusal s ≡ 0) × (record { settings = s; due = 0 } ≡ t)
+    go : (b : Bool) → eqb (settingsRefusal s) 0 ≡ b
+        → cond b (Fresh (at-due s 0)) (Refused (settingsRefusal s)) ≡ Fresh t
+        → (settingsRefusal s ≡ 0) × (at-due s 0 ≡ t)
     go true h e = (eqb-true _ 0 h, cc)
     go false h e = never (cc)
 
 pub demand3 : Demand3
-demand3 s t e calls = let f = fresh s t e in subst (λ x. After s x calls) (f .1) (after s (passed s (f .0)) calls)
+demand3 s t e calls = let f = fresh s t e in subst (λ x. After s x calls) (f .1) (after s (f .0) calls)

@@ -1,7 +1,7 @@
 pub mod Calls
 pub mod Numbers
-pub mod Units
 pub mod Samples
-pub mod Covered
-pub mod Legible
+pub mod OneTree
+pub mod StateCalls
+pub mod LumaUnits
 pub mod Demand

@@ -1,20 +1,19 @@
 -- Demand 3: one claim about every list of unit calls from a freshly opened session.
-use Prim.Native.Nat.{ℕ, _+_, _≤_}
+use Prim.Native.Nat.{ℕ, _≤_}
 use mathlib.Core.Path.{_≡_}
-use mathlib.Core.Logic.{_⊎_, _↔_}
-use mathlib.Core.Bool.{Bool, false, _&&_, _||_}
-use mathlib.Core.List.{List, [], _∷_}
+use mathlib.Core.Logic.{_↔_}
+use mathlib.Core.Bool.{Bool}
+use mathlib.Core.List.{List}
 use lib.ListN.{length}
-use lib.Dec.{leb, ltb}
 use Rattle.settings.specs.declared.Settings.{Settings}
-use Rattle.settings.specs.declared.Square.{Square}
 use Rattle.settings.specs.Units.{unitCount, squareAt}
 use Rattle.tree.specs.Splits.{bit}
 use Rattle.tree.specs.Rows.{Row}
 use Rattle.laws.specs.Every.{Every}
-use Rattle.laws.specs.Geometry.{copies, InOneCell, OfWholeCells}
+use Rattle.laws.specs.Geometry.{copies}
 use Rattle.unit.specs.Answers.{accepted}
 use Rattle.unit.specs.Writer.{writeFlags}
+use Rattle.sessions.specs.Samples as samples
 use Rattle.picture.specs.declared.Session.{Session}
 use Rattle.picture.specs.declared.Opened.the-variants.{Fresh}
 use Rattle.picture.specs.Session.{Call, opening}
@@ -22,24 +21,22 @@ use Rattle.picture.specs.Lists.{Taken, bytesOfUnit, acceptedIn, joined, 
 
 -- ---- samples
 
-abbrev pub inSquare : Square → ℕ → ℕ → Bool
-inSquare q px py = (leb (q .x) px && ltb px (q .x + q .side)) && (leb (q .y) py && ltb py (q .y + q .side))
-
+-- whether (px, py) is a sample of the picture
 abbrev pub inPicture : Settings → ℕ → ℕ → Bool
-inPicture s px py = ltb px (s .width) && ltb py (s .height)
+inPicture s px py = samples.inside (s .width) (s .height) px py
 
 -- "A unit's samples are those of the picture in its square": whether (px, py) is a sample of one of the units
-unfoldable pub inUnits : Settings → List Taken → ℕ → ℕ → Bool
-inUnits s [] px py = false
-inUnits s (u ∷ us) px py = (inSquare (squareAt s (u .address)) px py && inPicture s px py) || inUnits s us px py
+abbrev pub inUnits : Settings → List Taken → ℕ → ℕ → Bool
+inUnits s us px py = samples.inUnits (λ u. squareAt s (u .address)) (s .width) (s .height) us px py
 
 -- ---- the claim
 
 -- a row lies inside one 64 by 64 pipeline unit or consists of whole ones
 abbrev pub InPipeline : Row → Type 0
-InPipeline r = InOneCell 64 r ⊎ OfWholeCells 64 r
+InPipeline r = samples.InPipeline 64 r
 
--- turning a unit's rows back into any buffer that is long enough answers the number of its flags, and the buffer then begins with exactly them, the rest untouched
+-- turning a unit's rows back into any buffer that is long enough answers the number of its flags, and the buffer then
+-- begins with exactly them, the rest untouched
 abbrev pub TurnsBack : Settings → Taken → Type 0
 TurnsBack s u = (buffer : List ℕ) → length (u .flags) ≤ length buffer → writeFlags s (u .address) (bytesOfUnit u) buffer ≡ accepted (length (u .flags)) (u .flags) buffer
 

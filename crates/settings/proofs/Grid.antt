@@ -10,39 +10,24 @@ use Rattle.sides.specs.Side.{exponent}
 use Rattle.settings.specs.declared.Settings.{Settings}
 use Rattle.settings.specs.Checks.{settingsRefusal}
 use Rattle.settings.specs.Units.{unitsOver, unitCount, unitRefusal, squareAt}
-use Rattle.settings.proofs.Passed.{Passed, Length, passed, unit-side}
+use Rattle.settings.proofs.Passed.{Passed, Length, Usable, passed, unit-side}
 
-module _ (s : Settings) (p : Passed s) where
+module _ (s : Settings) (p : Usable s) where
   -- ---- the units over a length
 
   pub units-some : {n : ℕ} → Length (s .mincb) n → 0 < unitsOver (s .ctu) n
   unfolding unitsOver
-  units-some l = let u = unit-side (p .ctu) in le-div-iff-mul-le {k = s .ctu} (omega arith) .1 (omega arith)
-
-  pub units-few : {n : ℕ} → Length (s .mincb) n → unitsOver (s .ctu) n ≤ 512
-  unfolding unitsOver
-  units-few {n} l =
-      let u = unit-side (p .ctu) in
-      let q = div-lt-iff-lt-mul {k = s .ctu} {x = n + (s .ctu - 1)} {y = 513} (omega arith) .1 (omega arith) in
-      omega arith
-
-  -- what `units_over` asks
-  pub units-asks : {n : ℕ} → Length (s .mincb) n → (s .ctu ≡ 2 ^ exponent (s .ctu)) × (s .ctu ≤ 128) × (n ≤ 16384)
-  units-asks l = let u = unit-side (p .ctu) in (u .is, u .most, l .most)
+  units-some l = let u = p .ctu in le-div-iff-mul-le {k = s .ctu} (omega arith) .1 (omega arith)
 
   -- each begins inside the length
   begins : (i n : ℕ) → i < unitsOver (s .ctu) n → i * s .ctu < n
   unfolding unitsOver
   begins i n h =
-      let u = unit-side (p .ctu) in
+      let u = p .ctu in
       let q = le-div-iff-mul-le {k = s .ctu} (omega arith) .0 h in
       omega arith
 
   -- ---- the units of the picture
-
-  pub count-most : unitCount s ≤ 262144
-  unfolding unitCount
-  count-most = mul-le-mul (units-few (p .width)) (units-few (p .height))
 
   module _ (a : ℕ) (h : a < unitCount s) where
     pub row-below : a / unitsOver (s .ctu) (s .width) < unitsOver (s .ctu) (s .height)
@@ -57,6 +42,24 @@ module _ (s : Settings) (p : Passed s) where
     pub corner-y : squareAt s a .y < s .height
     unfolding squareAt
     corner-y = begins _ (s .height) row-below
+
+-- ---- how many there are
+
+module _ (s : Settings) (p : Passed s) where
+  pub units-few : {n : ℕ} → Length (s .mincb) n → unitsOver (s .ctu) n ≤ 512
+  unfolding unitsOver
+  units-few {n} l =
+      let u = unit-side (p .ctu) in
+      let q = div-lt-iff-lt-mul {k = s .ctu} {x = n + (s .ctu - 1)} {y = 513} (omega arith) .1 (omega arith) in
+      omega arith
+
+  -- what `units_over` asks
+  pub units-asks : {n : ℕ} → Length (s .mincb) n → (s .ctu ≡ 2 ^ exponent (s .ctu)) × (s .ctu ≤ 128) × (n ≤ 16384)
+  units-asks l = let u = unit-side (p .ctu) in (u .is, u .most, l .most)
+
+  pub count-most : unitCount s ≤ 262144
+  unfolding unitCount
+  count-most = mul-le-mul (units-few (p .width)) (units-few (p .height))
 
 -- ---- a unit that is not refused
 

@@ -5,6 +5,7 @@ pub mod Accepts
 pub mod Parsed
 pub mod TreeReading
 pub mod TreeTurning
+pub mod RootTree
 pub mod ReadsExactly
 pub mod TurnsExactly
 pub mod AcceptedTree

@@ -25,8 +25,8 @@ root-rooted s a r = record {
   good = r .good;
   here = r .here;
   top = (refl, refl, refl);
-  right = let x = starts-in (kindOf s) (rootAt s a) (r .here) Vertical in let w = r .good .shape .side Vertical .most in let m = r .passed .width .most in omega arith;
-  bottom = let y = starts-in (kindOf s) (rootAt s a) (r .here) Horizontal in let h = r .good .shape .side Horizontal .most in let m = r .passed .height .most in omega arith;
+  right = let x = starts-in (kindOf s) (rootAt s a) (r .here) Vertical in let w = r .good .shape .side Vertical .most in let m = r .usable .width .most in omega arith;
+  bottom = let y = starts-in (kindOf s) (rootAt s a) (r .here) Horizontal in let h = r .good .shape .side Horizontal .most in let m = r .usable .height .most in omega arith;
 }
 
 module _ (s : Settings) (a : ℕ) {r : Located} (e : r ≡ located s a) where

@@ -11,13 +11,14 @@ use Rattle.tree.specs.Rows.{tableBytes}
 use Rattle.tree.specs.Tree.{flagsOf, rowsOf}
 use Rattle.laws.proofs.Tests.{never}
 use Rattle.laws.proofs.Unique.{tree-unique}
-use Rattle.laws.proofs.Reading.{ReadingIsTree, reading-is-tree}
+use Rattle.laws.proofs.Reading.{ReadingIsTree}
 use Rattle.unit.specs.declared.Answer.the-variants.{Accepted}
 use Rattle.unit.specs.Answers.{numberOf, deliver}
 use Rattle.unit.specs.Luma.{kindOf, rootAt}
 use Rattle.unit.specs.Reader.{readTree, readUnit}
 use Rattle.unit.specs.Exactly.{UnitTree, OneOf, ReadsExactly}
 use Rattle.unit.proofs.Roots.{root-of}
+use Rattle.unit.proofs.RootTree.{root-reading}
 use Rattle.unit.proofs.Accepts.{deliver-number}
 use Rattle.unit.proofs.TreeReading.{FlagsRead, tree-read, read-or-refused}
 
@@ -33,9 +34,9 @@ of-delivery (inr o) = inr (inr (inr (inr o)))
 
 module _ (s : Settings) (a : ℕ) (h : unitRefusal s a ≡ 0) where
   unit-reading : ReadingIsTree (kindOf s) (rootAt s a)
-  unit-reading = let r = root-of s a h in reading-is-tree (r .valid) (r .good) (r .here) (r .fits)
+  unit-reading = root-reading (root-of s a h)
 
-  unit-read : (flags buffer : List ℕ) → readUnit s a flags buffer ≡ readTree (kindOf s) (rootAt s a) flags buffer
+  pub unit-read : (flags buffer : List ℕ) → readUnit s a flags buffer ≡ readTree (kindOf s) (rootAt s a) flags buffer
   unfolding readUnit
   unit-read flags buffer = rw (eq-eqb (unitRefusal s a) 0 h)
 

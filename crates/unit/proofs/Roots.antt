@@ -8,7 +8,7 @@ use Rattle.sides.proofs.Bools.{and-intro}
 use Rattle.sides.proofs.Powers.{Side as PowerSide}
 use Rattle.settings.specs.declared.Settings.{Settings}
 use Rattle.settings.specs.Units.{unitRefusal, unitCount, squareAt}
-use Rattle.settings.proofs.Passed.{Passed, unit-side}
+use Rattle.settings.proofs.Passed.{Usable, usable}
 use Rattle.settings.proofs.Grid.{corner-x, corner-y, unit-taken}
 use Rattle.tree.specs.declared.Direction.{Direction}
 use Rattle.tree.specs.declared.Direction.the-variants.{Horizontal, Vertical}
@@ -27,11 +27,11 @@ wider h p = record { is = p .is; least = p .least; most = omega arith }
 so-many : (m times : ℕ) → Multiple m (times * m)
 so-many m times = record { times = times; is = omega arith }
 
--- ---- settings that pass
+-- ---- settings that the laws can use
 
-module _ (s : Settings) (p : Passed s) where
-  passed-valid : Valid (limitsOf s)
-  passed-valid = valid-limits (wider (omega arith) (p .cb)) (wider (omega arith) (p .qt)) (p .bt .least) picture flat
+module _ (s : Settings) (p : Usable s) where
+  usable-valid : Valid (limitsOf s)
+  usable-valid = valid-limits (p .cb) (wider (omega arith) (p .qt)) (p .bt) picture flat
     where
       picture : (e : Direction) → Multiple (max 8 (s .mincb)) (extent e (limitsOf s))
       picture Horizontal = mod-multiple _ _ (p .height .multiple)
@@ -47,7 +47,7 @@ module _ (s : Settings) (p : Passed s) where
 
   -- MinQt divides the CTU side, MinCb divides MinQt
   fold-ctu : Fold (s .minqt) (s .ctu)
-  fold-ctu = let u = unit-side (p .ctu) in let q = p .qt .most in power-fold _ _ (p .qt .is) (u .is) (omega arith)
+  fold-ctu = let u = p .ctu in let q = p .qt .most in power-fold _ _ (p .qt .is) (u .is) (omega arith)
 
   fold-qt : Fold (s .mincb) (s .minqt)
   fold-qt = power-fold _ _ (p .cb .is) (p .qt .is) (p .qt .least)
@@ -68,7 +68,7 @@ module _ (s : Settings) (p : Passed s) where
 
     root-shape : Shape (rootAt s a)
     root-shape =
-        let u = unit-side (p .ctu) in
+        let u = p .ctu in
         record { side = λ e. rw (root-along e) (side-of (record { is = u .is; least = omega arith; most = u .most })); square = λ _. refl }
 
     root-good : Good (limitsOf s) (rootAt s a)
@@ -83,9 +83,10 @@ module _ (s : Settings) (p : Passed s) where
     unfolding cornerInside
     root-here h = and-intro _ _ (lt-ltb _ _ (corner-x s p a h)) (lt-ltb _ _ (corner-y s p a h))
 
--- settings that pass, a corner in the picture, a square of the CTU side at multiples of it, and what the laws ask
+-- settings that the laws can use, a corner in the picture, a square of the CTU side at multiples of it, and what the
+-- laws ask
 pub record Root (s : Settings) (a : ℕ) : Type 0 where
-  pub passed : Passed s
+  pub usable : Usable s
   pub valid : Valid (limitsOf s)
   pub good : Good (limitsOf s) (rootAt s a)
   pub here : cornerInside (limitsOf s) (rootAt s a) ≡ true
@@ -94,19 +95,20 @@ pub record Root (s : Settings) (a : ℕ) : Type 0 where
   pub side : (e : Direction) → along e (rootAt s a) ≡ s .ctu
   pub at : (e : Direction) → Multiple (s .ctu) (corner e (rootAt s a))
 
-pub root-of : (s : Settings) (a : ℕ) → unitRefusal s a ≡ 0 → Root s a
-root-of s a h =
-    let t = unit-taken s a h in
-    let p = t .0 in
-    let u = unit-side (p .ctu) in
+pub usable-root : (s : Settings) → Usable s → (a : ℕ) → a < unitCount s → Root s a
+usable-root s p a h =
+    let u = p .ctu in
     let e = root-along s p a Vertical in
     record {
-      passed = p;
-      valid = passed-valid s p;
+      usable = p;
+      valid = usable-valid s p;
       good = root-good s p a;
-      here = root-here s p a (t .1);
+      here = root-here s p a h;
       fits = omega arith;
       picture = picture-most s p;
       side = root-along s p a;
       at = root-corner s p a;
     }
+
+pub root-of : (s : Settings) (a : ℕ) → unitRefusal s a ≡ 0 → Root s a
+root-of s a h = let t = unit-taken s a h in usable-root s (usable (t .0)) a (t .1)

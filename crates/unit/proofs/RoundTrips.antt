@@ -18,25 +18,35 @@ use Rattle.unit.specs.Reader.{readUnit}
 use Rattle.unit.specs.Writer.{writeFlags}
 use Rattle.unit.specs.Exactly.{UnitTree, Bytes}
 use Rattle.unit.proofs.Accepts.{deliver-all, delivered, met-none}
-use Rattle.unit.proofs.AcceptedTree.{AcceptedTree, accepted-tree}
+use Rattle.unit.proofs.Roots.{root-of}
+use Rattle.unit.proofs.AcceptedTree.{AcceptedTree, accepted-tree, tree-back}
 use Rattle.unit.proofs.Parsed.{table-length}
-use Rattle.unit.proofs.ReadsExactly.{reads-exactly}
-use Rattle.unit.proofs.TurnsExactly.{turns-exactly}
+use Rattle.unit.proofs.ReadsExactly.{unit-read, reads-exactly}
+use Rattle.unit.proofs.TurnsExactly.{unit-rows, turns-exactly}
 
 module _ (s : Settings) (a : ℕ) where
-  -- only a unit that is there is turned back
+  -- only a unit that is there is read or turned back
+  read-there : (flags buffer : List ℕ) (m : ℕ) → readUnit s a flags buffer .answer ≡ Accepted m → unitRefusal s a ≡ 0
+  unfolding readUnit
+  read-there flags buffer m e = eqb-true (unitRefusal s a) 0 (met-none _ _ _ _ buffer e)
+
   turned-there : (bytes buffer : List ℕ) (m : ℕ) → writeFlags s a bytes buffer .answer ≡ Accepted m → unitRefusal s a ≡ 0
   unfolding writeFlags
   turned-there bytes buffer m e = eqb-true (unitRefusal s a) 0 (met-none _ _ _ _ buffer e)
 
-  -- The rows of accepted flags, turned back into any buffer that is long enough, give exactly these flags; the rest of the buffer stays untouched.
-  pub tree-back : {flags left : List ℕ} {m : ℕ} → AcceptedTree s a flags m left → (lent : List ℕ) → length flags ≤ length lent
-      → writeFlags s a (take (8 * m) left) lent ≡ accepted (length flags) flags lent
-  tree-back x lent room = rw (x .bytes, ← x .said) (turns-exactly s a (x .there) .turns (x .tree) lent ∙ deliver-all 17 _ _ lent (rw (x .said) room))
+  unit-accepted : unitRefusal s a ≡ 0 → (flags buffer : List ℕ) (m : ℕ) → readUnit s a flags buffer .answer ≡ Accepted m
+      → AcceptedTree s a flags m (readUnit s a flags buffer .buffer)
+  unit-accepted h flags buffer m e =
+      subst (λ o. o .answer ≡ Accepted m → AcceptedTree s a flags m (o .buffer)) (sym (unit-read s a h flags buffer))
+      (accepted-tree (root-of s a h) flags buffer m) e
 
+  -- The rows of accepted flags, turned back into any buffer that is long enough, give exactly these flags; the rest of
+  -- the buffer stays untouched.
   pub flags-back : (flags buffer : List ℕ) (m : ℕ) → readUnit s a flags buffer .answer ≡ Accepted m → (lent : List ℕ) → length flags ≤ length lent
       → writeFlags s a (take (8 * m) (readUnit s a flags buffer .buffer)) lent ≡ accepted (length flags) flags lent
-  flags-back flags buffer m e lent room = tree-back (accepted-tree s a flags buffer m e) lent room
+  flags-back flags buffer m e lent room =
+      let h = read-there flags buffer m e in
+      unit-rows s a h _ lent ∙ tree-back (root-of s a h) (unit-accepted h flags buffer m e) lent room
 
   -- The flags of an accepted way back, read into any buffer that is long enough, give exactly its rows; the rest of the buffer stays untouched.
   tree-rows : unitRefusal s a ≡ 0 → (t : UnitTree s a) (buffer : List ℕ) (m : ℕ) (lent : List ℕ)
@@ -75,6 +85,6 @@ module _ (s : Settings) (a : ℕ) where
       → (numberOf (writeFlags s a bytes buffer .answer) ≡ 16) ↔ (FlagsGive bytes → ⊥)
   refused-exactly bytes small whole h buffer =
       let exact = turns-exactly s a h .refused bytes small whole buffer in (
-        λ n g. let x = accepted-tree s a (g .0) (g .1) (g .2) (g .3) in exact .0 n (x .tree) (sym (x .bytes) ∙ g .4),
+        λ n g. let x = unit-accepted h (g .0) (g .1) (g .2) (g .3) in exact .0 n (x .tree) (sym (x .bytes) ∙ g .4),
         λ none. exact .1 (λ t e. none (subst FlagsGive e (gives h t))),
       )

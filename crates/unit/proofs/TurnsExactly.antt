@@ -12,19 +12,17 @@ use Rattle.settings.specs.declared.Settings.{Settings}
 use Rattle.settings.specs.Units.{unitRefusal}
 use Rattle.tree.specs.Rows.{tableBytes}
 use Rattle.tree.specs.Tree.{flagsOf, rowsOf}
-use Rattle.laws.specs.Every.{Every}
-use Rattle.laws.specs.Geometry.{SmallRow}
 use Rattle.laws.proofs.Tests.{never}
-use Rattle.laws.proofs.Depths.{rows-small}
-use Rattle.laws.proofs.Turning.{TurningIsTree, turning-is-tree}
+use Rattle.laws.proofs.Turning.{TurningIsTree}
 use Rattle.unit.specs.declared.Answer.the-variants.{Accepted}
 use Rattle.unit.specs.Answers.{numberOf, refused, deliver}
 use Rattle.unit.specs.Luma.{kindOf, rootAt}
 use Rattle.unit.specs.Writer.{writeTree, writeRows, writeFlags}
 use Rattle.unit.specs.Exactly.{UnitTree, OneOf, Bytes, TurnsExactly}
 use Rattle.unit.proofs.Roots.{root-of}
+use Rattle.unit.proofs.RootTree.{root-turning, root-said, root-turns}
 use Rattle.unit.proofs.Accepts.{delivered, deliver-number, met-none}
-use Rattle.unit.proofs.Parsed.{rowsIn, table-length, small-back, bytes-back}
+use Rattle.unit.proofs.Parsed.{rowsIn, bytes-back}
 use Rattle.unit.proofs.TreeTurning.{RowsTurned, tree-turned, turned-or-refused}
 
 -- bytes of a tree's rows, or refused
@@ -40,10 +38,10 @@ of-delivery (inl e) = inl e
 of-delivery (inr o) = inr (inr (inr o))
 
 module _ (s : Settings) (a : ℕ) (h : unitRefusal s a ≡ 0) where
-  pub unit-turning : TurningIsTree (kindOf s) (rootAt s a)
-  unit-turning = let r = root-of s a h in turning-is-tree (kindOf s) (r .valid) (r .good) (r .here) (r .fits)
+  unit-turning : TurningIsTree (kindOf s) (rootAt s a)
+  unit-turning = root-turning (root-of s a h)
 
-  unit-rows : (bytes buffer : List ℕ) → writeFlags s a bytes buffer ≡ writeRows (kindOf s) (rootAt s a) bytes buffer
+  pub unit-rows : (bytes buffer : List ℕ) → writeFlags s a bytes buffer ≡ writeRows (kindOf s) (rootAt s a) bytes buffer
   unfolding writeFlags
   unit-rows bytes buffer = rw (eq-eqb (unitRefusal s a) 0 h)
 
@@ -57,21 +55,8 @@ module _ (s : Settings) (a : ℕ) (h : unitRefusal s a ≡ 0) where
   unfolding writeRows
   unit-tree bytes buffer e = unit-rows bytes buffer ∙ rw (eq-eqb (length bytes % 8) 0 e)
 
-  -- the bytes of a tree's rows lose nothing, so they say these rows
-  pub unit-small : (t : UnitTree s a) → Every SmallRow (rowsOf t)
-  unit-small t =
-      let r = root-of s a h in
-      let b = r .valid .leastCb in
-      let q = r .valid .leQt in
-      rows-small (kindOf s) b (omega arith) (r .picture) (r .good .shape) (r .fits) t
-
-  rows-said : (t : UnitTree s a) → rowsIn (tableBytes (rowsOf t)) ≡ rowsOf t
-  rows-said t = small-back (unit-small t)
-
   turns : (t : UnitTree s a) (buffer : List ℕ) → writeFlags s a (tableBytes (rowsOf t)) buffer ≡ deliver 17 (length (flagsOf t)) (flagsOf t) buffer
-  turns t buffer =
-      let e = table-length (rowsOf t) in
-      unit-tree (tableBytes (rowsOf t)) buffer (omega arith) ∙ rw (rows-said t) (tree-turned unit-turning t buffer)
+  turns t buffer = unit-rows (tableBytes (rowsOf t)) buffer ∙ root-turns (root-of s a h) t buffer
 
   module _ (bytes : List ℕ) (small : Bytes bytes) where
     turned : length bytes % 8 ≡ 0 → Turned s a bytes
@@ -121,6 +106,8 @@ module _ (s : Settings) (a : ℕ) (h : unitRefusal s a ≡ 0) where
     turns = turns;
     only = only;
     refused = λ bytes small e buffer. no-tree bytes small buffer e;
-    unique = λ t u e. unit-turning .rows-unique t u (sym (rows-said t) ∙ ap rowsIn e ∙ rows-said u);
+    unique = λ t u e.
+        let r = root-of s a h in
+        unit-turning .rows-unique t u (sym (root-said r t) ∙ ap rowsIn e ∙ root-said r u);
     numbers = numbers;
   }

@@ -5,7 +5,7 @@ use native.Mathlib.Omega.{arith}
 use borrow.Author.Needs.{needs}
 use borrow.Author.Tests.{eq-eqb, ne-eqb, le-leb, lt-leb}
 use Rattle.settings.specs.Units.{unitCount, unitRefusal, squareAt, located}
-use Rattle.settings.proofs.Passed.{Passed, passed}
+use Rattle.settings.proofs.Passed.{Passed, passed, usable}
 use Rattle.settings.proofs.Grid.{units-asks, units-some, count-most, corner-x, corner-y}
 use Rattle.settings.proofs.units.unit_at.Statement.{statement}
 use Rattle.settings.proofs.units.unit_at.Tie as tie
@@ -57,14 +57,14 @@ cast-a c =
 rem-t8 : tie.Need-rem-t8
 rem-t8 c =
     let p = pass (c .before .before .before .before) in
-    rw (c .before .before .before .units-over .ensures) (units-some _ p (p .width))
+    rw (c .before .before .before .units-over .ensures) (units-some _ (usable p) (p .width))
 
 mul-t10 : tie.Need-mul-t10
 unfolding squareAt
 mul-t10 c =
     let b = c .before in
     let p = pass (b .before .before .before .before) in
-    let l = corner-x _ p _ (there b) in
+    let l = corner-x _ (usable p) _ (there b) in
     rw (b .before .before .before .units-over .ensures) (omega arith)
 
 div-t11 : tie.Need-div-t11
@@ -75,7 +75,7 @@ unfolding squareAt
 mul-t12 c =
     let b = c .before .before in
     let p = pass (b .before .before .before .before) in
-    let l = corner-y _ p _ (there b) in
+    let l = corner-y _ (usable p) _ (there b) in
     rw (b .before .before .before .units-over .ensures) (omega arith)
 
 returns-3 : tie.Need-returns-3

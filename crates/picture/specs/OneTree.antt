@@ -1,0 +1,61 @@
+-- Units with one coding tree and one table, and a session over them, as what demand 3 speaks of.
+use Prim.Native.Nat.{ℕ, _≤_}
+use mathlib.Core.Path.{_≡_}
+use mathlib.Core.List.{List}
+use lib.ListN.{length}
+use Rattle.settings.specs.declared.Settings.{Settings}
+use Rattle.settings.specs.declared.Square.{Square}
+use Rattle.settings.specs.Units.{unitCount, squareAt}
+use Rattle.tree.specs.Kind.{Kind}
+use Rattle.unit.specs.declared.Answer.{Answer}
+use Rattle.unit.specs.Answers.{Outcome, accepted}
+use Rattle.unit.specs.Luma.{kindOf}
+use Rattle.unit.specs.Reader.{readUnit}
+use Rattle.unit.specs.Writer.{writeFlags}
+use Rattle.sessions.specs.Coding.{Coding}
+use Rattle.picture.specs.Session.{Call}
+use Rattle.picture.specs.Lists.{Taken, rowsOfUnit, bytesOfUnit, taken}
+
+-- the units of a picture: the kind of their trees, how many there are, the square of each, and a single unit's calls
+pub record OneTree : Type 0 where
+  pub kind : Kind
+  pub count : ℕ
+  pub square : ℕ → Square
+  -- the side of the pipeline units
+  pub cell : ℕ
+  -- the reading, of an address, flags and a row buffer; the way back, of an address, row bytes and a flag buffer
+  pub read : ℕ → List ℕ → List ℕ → Outcome
+  pub turn : ℕ → List ℕ → List ℕ → Outcome
+
+-- the units of a greyscale picture
+abbrev pub greyscale : Settings → OneTree
+greyscale s = record {
+  kind = kindOf s;
+  count = unitCount s;
+  square = squareAt s;
+  cell = 64;
+  read = readUnit s;
+  turn = writeFlags s;
+}
+
+-- The coding of a session over such units, by what a unit call on it answers and leaves, and the session that follows
+-- an answer. A unit has one table. Its rows are turned back into any buffer that is long enough.
+abbrev pub oneTree : OneTree → (Session : Type 0) → (Session → Call → Outcome) → (Session → Answer → Session) → Coding
+oneTree o Session call follow = record {
+  Session = Session;
+  Call = Call;
+  Taken = Taken;
+  takes = λ t c. taken c (call t c .answer) (call t c .buffer);
+  yields = λ t c. follow t (call t c .answer);
+  Table = Unit {0};
+  address = λ u. u .address;
+  flags = λ u. u .flags;
+  rows = λ i u. rowsOfUnit u;
+  TurnsBack = λ u. (buffer : List ℕ) → length (u .flags) ≤ length buffer
+      → o .turn (u .address) (bytesOfUnit u) buffer ≡ accepted (length (u .flags)) (u .flags) buffer;
+  width = o .kind .limits .width;
+  height = o .kind .limits .height;
+  count = o .count;
+  square = o .square;
+  cell = o .cell;
+}

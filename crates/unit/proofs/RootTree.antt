@@ -1,0 +1,49 @@
+-- The laws of coding trees, for the trees of a unit's root.
+use Prim.Native.Nat.{ℕ, _%_}
+use mathlib.Core.Path.{_≡_}
+use mathlib.Core.List.{List}
+use native.Mathlib.Omega.{arith}
+use borrow.Author.Tests.{eq-eqb}
+use lib.ListN.{length}
+use Rattle.settings.specs.declared.Settings.{Settings}
+use Rattle.tree.specs.Rows.{tableBytes}
+use Rattle.tree.specs.Tree.{flagsOf, rowsOf}
+use Rattle.laws.specs.Every.{Every}
+use Rattle.laws.specs.Geometry.{SmallRow}
+use Rattle.laws.proofs.Depths.{rows-small}
+use Rattle.laws.proofs.Reading.{ReadingIsTree, reading-is-tree}
+use Rattle.laws.proofs.Turning.{TurningIsTree, turning-is-tree}
+use Rattle.unit.specs.Answers.{deliver}
+use Rattle.unit.specs.Luma.{kindOf, rootAt}
+use Rattle.unit.specs.Writer.{writeRows}
+use Rattle.unit.specs.Exactly.{UnitTree}
+use Rattle.unit.proofs.Roots.{Root}
+use Rattle.unit.proofs.Parsed.{rowsIn, table-length, small-back}
+use Rattle.unit.proofs.TreeTurning.{tree-turned}
+
+module _ {s : Settings} {a : ℕ} (r : Root s a) where
+  pub root-reading : ReadingIsTree (kindOf s) (rootAt s a)
+  root-reading = reading-is-tree (r .valid) (r .good) (r .here) (r .fits)
+
+  pub root-turning : TurningIsTree (kindOf s) (rootAt s a)
+  root-turning = turning-is-tree (kindOf s) (r .valid) (r .good) (r .here) (r .fits)
+
+  module _ (t : UnitTree s a) where
+    -- the bytes of a tree's rows lose nothing, so they say these rows
+    pub root-small : Every SmallRow (rowsOf t)
+    root-small =
+        let b = r .valid .leastCb in
+        let q = r .valid .leQt in
+        rows-small (kindOf s) b (omega arith) (r .picture) (r .good .shape) (r .fits) t
+
+    pub root-said : rowsIn (tableBytes (rowsOf t)) ≡ rowsOf t
+    root-said = small-back root-small
+
+    -- they are turned back into the tree's flags
+    pub root-turns : (buffer : List ℕ) → writeRows (kindOf s) (rootAt s a) (tableBytes (rowsOf t)) buffer
+        ≡ deliver 17 (length (flagsOf t)) (flagsOf t) buffer
+    unfolding writeRows
+    root-turns buffer =
+        let e = table-length (rowsOf t) in
+        rw (eq-eqb (length (tableBytes (rowsOf t)) % 8) 0 (omega arith))
+        (rw root-said (tree-turned root-turning t buffer))
