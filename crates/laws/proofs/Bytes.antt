@@ -21,7 +21,12 @@ module _ {flags : List ℕ} where
   reads-part [] {b} {from} r = (from, nothing, r)
   reads-part (x ∷ a) (byte l e r) = let t = reads-part a r in (t .0, byte l e (t .1), t .2)
 
-  reads-drop : {at to : ℕ} {bs : List ℕ} → Reads flags at bs to → drop at flags ≡ bs ++ drop to flags
+  -- no byte is read past the end
+  pub reads-within : {at to : ℕ} {bs : List ℕ} → Reads flags at bs to → at ≤ length flags → to ≤ length flags
+  reads-within nothing h = h
+  reads-within (byte l e r) h = reads-within r (omega arith)
+
+  pub reads-drop : {at to : ℕ} {bs : List ℕ} → Reads flags at bs to → drop at flags ≡ bs ++ drop to flags
   reads-drop nothing = refl
   reads-drop (byte {at = at} l e r) = drop-cons flags at 0 l ∙ ap₂ (λ x y. x ∷ y) e (rw add-one at (reads-drop r))
 

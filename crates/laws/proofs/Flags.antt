@@ -24,7 +24,7 @@ use Rattle.laws.proofs.Bytes.{Reads, nothing, byte, reads-join, reads-p
 -- ---- one flag
 
 -- a flag can have a value: it is present, or the value is the inferred one
-abbrev canBe : Bool → Bool → Bool → Bool
+abbrev pub canBe : Bool → Bool → Bool → Bool
 canBe there absent v = there || same absent v
 
 -- a byte of at most 1 is the value that it is read as
@@ -37,9 +37,9 @@ byte-value x false l e = below (leb-true x 1 l) (eqb-false x 1 e)
 
 module _ (flags : List ℕ) where
   -- a flag is read with a value that it can have
-  record Step (there absent v : Bool) (at to : ℕ) : Type 0 where
-    value : canBe there absent v ≡ true
-    reads : Reads flags at (flagByte there v) to
+  pub record Step (there absent v : Bool) (at to : ℕ) : Type 0 where
+    pub value : canBe there absent v ≡ true
+    pub reads : Reads flags at (flagByte there v) to
 
   step-complete : (there absent v : Bool) {at to : ℕ} → canBe there absent v ≡ true → Reads flags at (flagByte there v) to → flagAt there absent flags at ≡ Value v to
   unfolding flagAt
@@ -56,7 +56,7 @@ module _ (flags : List ℕ) where
   step-there v at to true false l c e = never (cc)
   step-there v at to false c l d e = never (cc)
 
-  step-sound : (there absent : Bool) {v : Bool} {at to : ℕ} → flagAt there absent flags at ≡ Value v to → Step there absent v at to
+  pub step-sound : (there absent : Bool) {v : Bool} {at to : ℕ} → flagAt there absent flags at ≡ Value v to → Step there absent v at to
   unfolding flagAt
   step-sound true absent {v} {at} {to} e = record { value = refl; reads = step-there v at to (ltb at (length flags)) (leb (getD flags at 0) 1) refl refl e }
   step-sound false absent {v} {at} {to} e =

@@ -17,6 +17,9 @@ pub mod EveryRow
 pub mod First
 pub mod FlagCounts
 pub mod Flags
+pub mod Grows
+pub mod Halts
+pub mod HaltsAt
 pub mod Last
 pub mod Leads
 pub mod Leaves

@@ -1,16 +1,18 @@
 -- The reading of a node is its coding tree: it accepts exactly the flags of its trees, with the rows of these trees; flags say one tree at most; and
--- what it does not accept it refuses with 11 or 12.
+-- what it does not accept it refuses with 11 or 12, within the flags of a tree.
 use Prim.Native.Nat.{ℕ, _+_, _≤_}
 use mathlib.Core.Path.{_≡_, sym, ap, _∙_}
 use mathlib.Core.Bool.{true}
 use mathlib.Core.List.{List, [], _∷_}
 use mathlib.Core.Logic.{_↔_}
+use lib.ListN.{length}
 use native.Mathlib.Omega.{arith}
 use Rattle.tree.specs.declared.Limits.{Limits}
 use Rattle.tree.specs.declared.Node.{Node}
 use Rattle.tree.specs.Kind.{Kind, luma}
 use Rattle.tree.specs.Children.{cornerInside}
 use Rattle.tree.specs.Rows.{Row}
+use Rattle.tree.specs.Run.{stops}
 use Rattle.tree.specs.Reading.{levelsLeft, walk, readNode}
 use Rattle.tree.specs.Tree.{Tree, flagsOf}
 use Rattle.laws.specs.Every.{every-none, every-more}
@@ -18,7 +20,7 @@ use Rattle.laws.proofs.Bytes.{Reads}
 use Rattle.laws.proofs.Runs.{gives, over-one}
 use Rattle.laws.proofs.Walks.{walkAll, Open, Grown, walk-complete, walk-sound}
 use Rattle.laws.proofs.Shape.{Shape}
-use Rattle.laws.proofs.Refusals.{Fine, walk-fine}
+use Rattle.laws.proofs.Halts.{Halted, walk-halted}
 use Rattle.laws.proofs.Levels.{levels-left}
 use Rattle.laws.proofs.Edge.{Valid, Good, edge-opens}
 use Rattle.laws.proofs.Unique.{alone}
@@ -26,7 +28,7 @@ use Rattle.laws.proofs.Unique.{alone}
 pub record ReadingIsTree (k : Kind) (n : Node) : Type 0 where
   pub exactly : (flags : List ℕ) (at : ℕ) (rows : List Row) (to : ℕ) → readNode k flags n at ≡ gives rows to ↔ Grown k flags (n ∷ []) at rows to
   pub only : (flags : List ℕ) (t u : Tree k n) (at to end : ℕ) → Reads flags at (flagsOf t) to → Reads flags at (flagsOf u) end → (t ≡ u) × (to ≡ end)
-  pub refused : (flags : List ℕ) (at : ℕ) → Fine (readNode k flags n at .end)
+  pub halted : (flags : List ℕ) (at a p : ℕ) → at ≤ length flags → readNode k flags n at .end ≡ stops a p → Halted k flags (n ∷ []) at a p
 
 -- in any kind whose walks meet no dead end
 module _ {k : Kind} {P : Node → Type 0} (opens : Open k P) (shape : (n : Node) → P n → Shape n) (cb : 4 ≤ k .limits .mincb) (qt : 4 ≤ k .limits .minqt) where
@@ -34,7 +36,8 @@ module _ {k : Kind} {P : Node → Type 0} (opens : Open k P) (shape : (n : Node)
   kind-reading {n} p here fits = record {
     exactly = λ flags at rows to. (grown flags at rows to, given flags at rows to);
     only = λ flags t. alone flags t;
-    refused = λ flags at. walk-fine k flags P opens shape (levelsLeft n) n p (omega arith) here at;
+    halted = λ flags at a q l e.
+        walk-halted k flags opens shape (levelsLeft n) (every-more (p, omega arith) every-none) at a q l (ap (λ r. r .end) (one flags at) ∙ e);
   }
     where
       one : (flags : List ℕ) (at : ℕ) → walkAll k flags (levelsLeft n) (n ∷ []) at ≡ readNode k flags n at

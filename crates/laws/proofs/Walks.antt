@@ -67,12 +67,12 @@ module _ (k : Kind) (flags : List ℕ) where
     pub same : rowsOf trees ≡ rows
 
   -- the same of one node, without the nodes after it
-  record Sprout (n : Node) (at : ℕ) (rows : List Row) (to : ℕ) : Type 0 where
-    d : Decision
-    ok : allows (rightsOf k n) d ≡ true
-    kids : Trees k (children (k .limits) n d)
-    reads : Reads flags at (flagsFor (rightsOf k n) d ++ flagsOf kids) to
-    same : ownRows n d ++ rowsOf kids ≡ rows
+  pub record Sprout (n : Node) (at : ℕ) (rows : List Row) (to : ℕ) : Type 0 where
+    pub d : Decision
+    pub ok : allows (rightsOf k n) d ≡ true
+    pub kids : Trees k (children (k .limits) n d)
+    pub reads : Reads flags at (flagsFor (rightsOf k n) d ++ flagsOf kids) to
+    pub same : ownRows n d ++ rowsOf kids ≡ rows
 
   grown-none : {at to : ℕ} → goes at ≡ goes to → Grown [] at [] to
   unfolding flagsOf rowsOf
@@ -117,7 +117,7 @@ module _ (k : Kind) (flags : List ℕ) where
         let t = below d (opens .kids n d g (h .ok)) m to e in
         record { d = d; ok = h .ok; kids = t .trees; reads = reads-join (h .reads) (t .reads); same = rw (t .same) }
 
-    node-sound : (deep : ℕ) (n : Node) → Good n → cornerInside (k .limits) n ≡ true → (at to : ℕ) → walk deep k flags n at .end ≡ goes to → Sprout n at (walk deep k flags n at .given) to
+    pub node-sound : (deep : ℕ) (n : Node) → Good n → cornerInside (k .limits) n ≡ true → (at to : ℕ) → walk deep k flags n at .end ≡ goes to → Sprout n at (walk deep k flags n at .given) to
     unfolding walk
     node-sound zero n g here at to e = never (cc)
     node-sound (suc deep) n g here at to e =
