@@ -26,6 +26,7 @@ pub mod Leaves
 pub mod Levels
 pub mod Marks
 pub mod Measure
+pub mod Meetings
 pub mod Multiples
 pub mod Near
 pub mod Opens
