@@ -1,6 +1,6 @@
 -- What it means that bytes are read from one place to another.
 use Prim.Native.Nat.{ℕ, suc, _+_, _≤_, _<_}
-use mathlib.Core.Path.{_≡_, refl, sym, ap₂, _∙_}
+use mathlib.Core.Path.{_≡_, refl, sym, ap, ap₂, _∙_}
 use mathlib.Core.List.{List, [], _∷_, _++_, append-nil}
 use lib.ListN.{length, getD, drop, drop-of-length-le, length-append}
 use lib.Seq.{drop-cons, getD-append-seam, append-snoc}
@@ -29,6 +29,14 @@ module _ {flags : List ℕ} where
   pub reads-drop : {at to : ℕ} {bs : List ℕ} → Reads flags at bs to → drop at flags ≡ bs ++ drop to flags
   reads-drop nothing = refl
   reads-drop (byte {at = at} l e r) = drop-cons flags at 0 l ∙ ap₂ (λ x y. x ∷ y) e (rw add-one at (reads-drop r))
+
+  pub reads-length : {at to : ℕ} {bs : List ℕ} → Reads flags at bs to → at + length bs ≡ to
+  reads-length nothing = omega arith
+  reads-length (byte l e r) = let h = reads-length r in omega arith
+
+  -- bytes read from the first place on, and the byte after them
+  pub reads-seam : {to : ℕ} {bs : List ℕ} → Reads flags 0 bs to → to < length flags → flags ≡ bs ++ (getD flags to 0 ∷ drop (suc to) flags)
+  reads-seam {to} {bs} r l = reads-drop r ∙ ap (λ rest. bs ++ rest) (drop-cons flags to 0 l)
 
   -- the bytes read from the first place to the end are all bytes
   pub reads-end : {to : ℕ} {bs : List ℕ} → Reads flags 0 bs to → length flags ≤ to → bs ≡ flags

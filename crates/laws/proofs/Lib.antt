@@ -35,6 +35,7 @@ pub mod Parts
 pub mod Picture
 pub mod Pipeline
 pub mod Reach
+pub mod ReachedNodes
 pub mod Reading
 pub mod Refusals
 pub mod Rights

@@ -1,2 +1,3 @@
 pub mod Every
 pub mod Geometry
+pub mod Reached

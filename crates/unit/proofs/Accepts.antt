@@ -1,22 +1,36 @@
 -- What a call answers: laws of the delivery into a buffer.
-use Prim.Native.Nat.{ℕ, _≤_}
+use Prim.Native.Nat.{ℕ, _≤_, _<_}
 use mathlib.Core.Path.{_≡_, refl}
 use mathlib.Core.Bool.{Bool, true, false, cond}
-use mathlib.Core.List.{List, [], _∷_}
-use mathlib.Core.Logic.{inl, inr}
+use mathlib.Core.List.{List}
 use lib.ListN.{length}
 use lib.Dec.{ltb}
-use borrow.Author.Tests.{le-ltb}
+use borrow.Author.Tests.{lt-ltb, le-ltb, ltb-true}
 use Rattle.laws.proofs.Tests.{never}
-use Rattle.unit.specs.declared.Answer.the-variants.{Accepted}
-use Rattle.unit.specs.Answers.{numberOf, Outcome, refused, accepted, deliver}
-use Rattle.unit.specs.Exactly.{OneOf}
+use Rattle.unit.specs.declared.Answer.the-variants.{Accepted, Refused}
+use Rattle.unit.specs.Answers.{Outcome, refused, accepted, deliver}
+use Rattle.unit.specs.Exactly.{OneOf, AcceptedOr}
 
 module _ (number count : ℕ) (bytes buffer : List ℕ) where
   -- into a buffer that is long enough
   pub deliver-all : length bytes ≤ length buffer → deliver number count bytes buffer ≡ accepted count bytes buffer
   unfolding deliver
   deliver-all h = rw (le-ltb (length buffer) (length bytes) h)
+
+  -- into one that is too short
+  pub deliver-short : length buffer < length bytes → deliver number count bytes buffer ≡ refused number count buffer
+  unfolding deliver
+  deliver-short h = rw (lt-ltb (length buffer) (length bytes) h)
+
+  -- a refused delivery was into one
+  pub undelivered : {a p : ℕ} → deliver number count bytes buffer .answer ≡ Refused a p → (number ≡ a) × (count ≡ p) × (length buffer < length bytes)
+  unfolding deliver
+  undelivered {a} {p} e = go (ltb (length buffer) (length bytes)) refl e
+    where
+      go : (b : Bool) → ltb (length buffer) (length bytes) ≡ b → cond b (refused number count buffer) (accepted count bytes buffer) .answer ≡ Refused a p
+          → (number ≡ a) × (count ≡ p) × (length buffer < length bytes)
+      go true l e = (cc, cc, ltb-true (length buffer) (length bytes) l)
+      go false l e = never (cc)
 
   -- an accepted delivery has its count, and is whole
   pub delivered : {m : ℕ} → deliver number count bytes buffer .answer ≡ Accepted m → (count ≡ m) × (deliver number count bytes buffer ≡ accepted count bytes buffer)
@@ -28,14 +42,14 @@ module _ (number count : ℕ) (bytes buffer : List ℕ) where
       go true e = never (cc)
       go false e = (cc, refl)
 
-  -- its number is 0 or the one given
-  pub deliver-number : OneOf (numberOf (deliver number count bytes buffer .answer)) (0 ∷ number ∷ [])
+  -- it is accepted, or has the number given
+  pub deliver-or : (numbers : List ℕ) → OneOf number numbers → AcceptedOr numbers (deliver number count bytes buffer .answer)
   unfolding deliver
-  deliver-number = go (ltb (length buffer) (length bytes))
+  deliver-or numbers o = go (ltb (length buffer) (length bytes))
     where
-      go : (b : Bool) → OneOf (numberOf (cond b (refused number count buffer) (accepted count bytes buffer) .answer)) (0 ∷ number ∷ [])
-      go true = inr (inl refl)
-      go false = inl refl
+      go : (b : Bool) → AcceptedOr numbers (cond b (refused number count buffer) (accepted count bytes buffer) .answer)
+      go true = o
+      go false = tt
 
 -- a call that is accepted met no refusal before
 pub met-none : (b : Bool) (o : Outcome) (number place : ℕ) (buffer : List ℕ) {m : ℕ} → cond b o (refused number place buffer) .answer ≡ Accepted m → b ≡ true

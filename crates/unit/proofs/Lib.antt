@@ -3,6 +3,7 @@ pub mod Roots
 pub mod Located
 pub mod Accepts
 pub mod Parsed
+pub mod FlagFaults
 pub mod TreeReading
 pub mod TreeTurning
 pub mod RootTree
@@ -10,3 +11,6 @@ pub mod ReadsExactly
 pub mod TurnsExactly
 pub mod AcceptedTree
 pub mod RoundTrips
+pub mod UnitFaults
+pub mod Decided
+pub mod Bounds

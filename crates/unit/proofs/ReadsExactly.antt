@@ -1,36 +1,35 @@
 -- A unit that is there is read exactly as its coding trees say.
 use Prim.Native.Nat.{ℕ}
-use mathlib.Core.Path.{_≡_, _∙_}
+use mathlib.Core.Path.{_≡_, refl, _∙_}
 use mathlib.Core.List.{List, [], _∷_}
 use mathlib.Core.Logic.{inl, inr}
 use borrow.Author.Tests.{eq-eqb}
 use lib.ListN.{length}
 use Rattle.settings.specs.declared.Settings.{Settings}
 use Rattle.settings.specs.Units.{unitRefusal}
+use Rattle.tree.specs.declared.Node.{Node}
+use Rattle.tree.specs.Kind.{Kind}
 use Rattle.tree.specs.Rows.{tableBytes}
 use Rattle.tree.specs.Tree.{flagsOf, rowsOf}
 use Rattle.laws.proofs.Tests.{never}
 use Rattle.laws.proofs.Unique.{tree-unique}
 use Rattle.laws.proofs.Reading.{ReadingIsTree}
 use Rattle.unit.specs.declared.Answer.the-variants.{Accepted}
-use Rattle.unit.specs.Answers.{numberOf, deliver}
+use Rattle.unit.specs.Answers.{deliver}
 use Rattle.unit.specs.Luma.{kindOf, rootAt}
 use Rattle.unit.specs.Reader.{readTree, readUnit}
-use Rattle.unit.specs.Exactly.{UnitTree, OneOf, ReadsExactly}
+use Rattle.unit.specs.Exactly.{UnitTree, OneOf, AcceptedOr, ReadsExactly}
+use Rattle.unit.specs.Faults.{FlagFault, end-early, no-flag, run-over}
 use Rattle.unit.proofs.Roots.{root-of}
 use Rattle.unit.proofs.RootTree.{root-reading}
-use Rattle.unit.proofs.Accepts.{deliver-number}
+use Rattle.unit.proofs.Accepts.{deliver-or}
 use Rattle.unit.proofs.TreeReading.{FlagsRead, tree-read, read-or-refused}
 
--- the numbers of refused flags, and those of a delivery, are among all
-of-flags : {n : ℕ} → OneOf n (11 ∷ 12 ∷ 13 ∷ []) → OneOf n (0 ∷ 11 ∷ 12 ∷ 13 ∷ 14 ∷ [])
-of-flags (inl e) = inr (inl e)
-of-flags (inr (inl e)) = inr (inr (inl e))
-of-flags (inr (inr (inl e))) = inr (inr (inr (inl e)))
-
-of-delivery : {n : ℕ} → OneOf n (0 ∷ 14 ∷ []) → OneOf n (0 ∷ 11 ∷ 12 ∷ 13 ∷ 14 ∷ [])
-of-delivery (inl e) = inl e
-of-delivery (inr o) = inr (inr (inr (inr o)))
+-- the numbers of refused flags, and that of a delivery, are among all
+fault-number : {k : Kind} {n : Node} {flags : List ℕ} {number place : ℕ} → FlagFault k n flags number place → OneOf number (11 ∷ 12 ∷ 13 ∷ 14 ∷ [])
+fault-number (end-early t flag more e) = inl refl
+fault-number (no-flag t front byte after flag more e l f) = inr (inl refl)
+fault-number (run-over t byte after e) = inr (inr (inl refl))
 
 module _ (s : Settings) (a : ℕ) (h : unitRefusal s a ≡ 0) where
   unit-reading : ReadingIsTree (kindOf s) (rootAt s a)
@@ -48,14 +47,14 @@ module _ (s : Settings) (a : ℕ) (h : unitRefusal s a ≡ 0) where
     only m e (inl t) = t
     only m e (inr f) = let g = unit-read flags buffer ∙ f .3 buffer in never (cc)
 
-    number : FlagsRead (kindOf s) (rootAt s a) flags → OneOf (numberOf (readUnit s a flags buffer .answer)) (0 ∷ 11 ∷ 12 ∷ 13 ∷ 14 ∷ [])
-    number (inl t) = rw (← (t .1), reads (t .0) buffer) (of-delivery (deliver-number 14 _ _ buffer))
-    number (inr f) = rw (unit-read flags buffer, f .3 buffer) (of-flags (f .2))
+    numbers : FlagsRead (kindOf s) (rootAt s a) flags → AcceptedOr (11 ∷ 12 ∷ 13 ∷ 14 ∷ []) (readUnit s a flags buffer .answer)
+    numbers (inl t) = rw (← (t .1), reads (t .0) buffer) (deliver-or 14 _ _ buffer _ (inr (inr (inr (inl refl)))))
+    numbers (inr f) = rw (unit-read flags buffer, f .3 buffer) (fault-number (f .2))
 
   pub reads-exactly : ReadsExactly s a
   reads-exactly = record {
     reads = reads;
     only = λ flags buffer m e. only flags buffer m e (read-or-refused unit-reading flags);
     unique = tree-unique;
-    refused = λ flags buffer. number flags buffer (read-or-refused unit-reading flags);
+    numbers = λ flags buffer. numbers flags buffer (read-or-refused unit-reading flags);
   }

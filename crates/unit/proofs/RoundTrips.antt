@@ -12,11 +12,12 @@ use Rattle.settings.specs.declared.Settings.{Settings}
 use Rattle.settings.specs.Units.{unitRefusal}
 use Rattle.tree.specs.Rows.{tableBytes}
 use Rattle.tree.specs.Tree.{flagsOf, rowsOf}
-use Rattle.unit.specs.declared.Answer.the-variants.{Accepted}
-use Rattle.unit.specs.Answers.{numberOf, accepted}
+use Rattle.unit.specs.declared.Answer.the-variants.{Accepted, Refused}
+use Rattle.unit.specs.Answers.{accepted}
 use Rattle.unit.specs.Reader.{readUnit}
 use Rattle.unit.specs.Writer.{writeFlags}
 use Rattle.unit.specs.Exactly.{UnitTree, Bytes}
+use Rattle.unit.specs.Demand2.{Given, Demand2}
 use Rattle.unit.proofs.Accepts.{deliver-all, delivered, met-none}
 use Rattle.unit.proofs.Roots.{root-of}
 use Rattle.unit.proofs.AcceptedTree.{AcceptedTree, accepted-tree, tree-back}
@@ -26,15 +27,15 @@ use Rattle.unit.proofs.TurnsExactly.{unit-rows, turns-exactly}
 
 module _ (s : Settings) (a : ℕ) where
   -- only a unit that is there is read or turned back
-  read-there : (flags buffer : List ℕ) (m : ℕ) → readUnit s a flags buffer .answer ≡ Accepted m → unitRefusal s a ≡ 0
+  pub read-there : (flags buffer : List ℕ) (m : ℕ) → readUnit s a flags buffer .answer ≡ Accepted m → unitRefusal s a ≡ 0
   unfolding readUnit
   read-there flags buffer m e = eqb-true (unitRefusal s a) 0 (met-none _ _ _ _ buffer e)
 
-  turned-there : (bytes buffer : List ℕ) (m : ℕ) → writeFlags s a bytes buffer .answer ≡ Accepted m → unitRefusal s a ≡ 0
+  pub turned-there : (bytes buffer : List ℕ) (m : ℕ) → writeFlags s a bytes buffer .answer ≡ Accepted m → unitRefusal s a ≡ 0
   unfolding writeFlags
   turned-there bytes buffer m e = eqb-true (unitRefusal s a) 0 (met-none _ _ _ _ buffer e)
 
-  unit-accepted : unitRefusal s a ≡ 0 → (flags buffer : List ℕ) (m : ℕ) → readUnit s a flags buffer .answer ≡ Accepted m
+  pub unit-accepted : unitRefusal s a ≡ 0 → (flags buffer : List ℕ) (m : ℕ) → readUnit s a flags buffer .answer ≡ Accepted m
       → AcceptedTree s a flags m (readUnit s a flags buffer .buffer)
   unit-accepted h flags buffer m e =
       subst (λ o. o .answer ≡ Accepted m → AcceptedTree s a flags m (o .buffer)) (sym (unit-read s a h flags buffer))
@@ -69,22 +70,32 @@ module _ (s : Settings) (a : ℕ) where
 
   -- ---- whole rows are refused with 16 exactly where no flags give them
 
-  -- flags give a table: read into some buffer they are accepted, and the buffer begins with it
-  abbrev pub FlagsGive : List ℕ → Type 0
-  FlagsGive bytes = (flags : List ℕ) × (buffer : List ℕ) × (m : ℕ) × (readUnit s a flags buffer .answer ≡ Accepted m) × (take (8 * m) (readUnit s a flags buffer .buffer) ≡ bytes)
-
   -- a tree's flags give its table, read into a buffer as long as it
-  gives : unitRefusal s a ≡ 0 → (t : UnitTree s a) → FlagsGive (tableBytes (rowsOf t))
+  gives : unitRefusal s a ≡ 0 → (t : UnitTree s a) → Given s a (tableBytes (rowsOf t))
   gives h t =
       let table = tableBytes (rowsOf t) in
       let r = reads-exactly s a h .reads t table ∙ deliver-all 14 _ _ table (omega arith) in
       let n : 8 * length (rowsOf t) ≡ length table = sym (table-length (rowsOf t)) in
-      (flagsOf t, table, length (rowsOf t), ap (λ o. o .answer) r, rw (r, n) (take-append-seam table (drop (length table) table)))
+      record {
+        flags = flagsOf t;
+        buffer = table;
+        count = length (rowsOf t);
+        accepted = ap (λ o. o .answer) r;
+        rows = rw (r, n) (take-append-seam table (drop (length table) table));
+      }
 
   pub refused-exactly : (bytes : List ℕ) → Bytes bytes → length bytes % 8 ≡ 0 → unitRefusal s a ≡ 0 → (buffer : List ℕ)
-      → (numberOf (writeFlags s a bytes buffer .answer) ≡ 16) ↔ (FlagsGive bytes → ⊥)
+      → (writeFlags s a bytes buffer .answer ≡ Refused 16 0) ↔ ¬ Given s a bytes
   refused-exactly bytes small whole h buffer =
       let exact = turns-exactly s a h .refused bytes small whole buffer in (
-        λ n g. let x = unit-accepted h (g .0) (g .1) (g .2) (g .3) in exact .0 n (x .tree) (sym (x .bytes) ∙ g .4),
-        λ none. exact .1 (λ t e. none (subst FlagsGive e (gives h t))),
+        λ n g. let x = unit-accepted h (g .flags) (g .buffer) (g .count) (g .accepted) in exact .0 n (x .tree) (sym (x .bytes) ∙ g .rows),
+        λ none. exact .1 (λ t e. none (subst (Given s a) e (gives h t))),
       )
+
+-- demand 2, whole
+pub demand2 : Demand2
+demand2 s a h = record {
+  reads = reads-exactly s a h;
+  turns = turns-exactly s a h;
+  refused = λ bytes small whole. refused-exactly s a bytes small whole h;
+}

@@ -1,41 +1,51 @@
--- The reading of a whole tree, where the reading of a node is its coding tree: flags are those of a tree, or they are refused.
-use Prim.Native.Nat.{ℕ}
-use mathlib.Core.Path.{_≡_, refl}
-use mathlib.Core.Bool.{Bool, true, false, _||_}
-use mathlib.Core.List.{List, [], _∷_}
+-- The reading of a whole tree, where the reading of a node is its coding tree: flags are those of a tree, or they are refused for a fault of theirs.
+use Prim.Native.Nat.{ℕ, suc, _<_}
+use mathlib.Core.Path.{_≡_, refl, subst}
+use mathlib.Core.Bool.{Bool, true, false}
+use mathlib.Core.List.{List, [], _∷_, _++_}
 use mathlib.Core.Logic.{_⊎_, inl, inr}
-use lib.ListN.{length}
-use lib.Dec.{ltb, eqb}
+use lib.ListN.{length, getD, drop}
+use lib.Dec.{ltb}
 use native.Mathlib.Omega.{arith}
-use borrow.Author.Tests.{ltb-false, le-ltb, eqb-true}
+use borrow.Author.Tests.{ltb-true, ltb-false, le-ltb}
 use Rattle.tree.specs.declared.Node.{Node}
 use Rattle.tree.specs.Kind.{Kind}
 use Rattle.tree.specs.Rows.{tableBytes}
 use Rattle.tree.specs.Run.{End, goes, stops}
 use Rattle.tree.specs.Reading.{readNode}
 use Rattle.tree.specs.Tree.{Tree, flagsOf, rowsOf}
-use Rattle.laws.proofs.Bytes.{reads-all, reads-end}
+use Rattle.laws.proofs.Bytes.{Reads, reads-all, reads-end, reads-length, reads-seam}
 use Rattle.laws.proofs.Runs.{gives}
-use Rattle.laws.proofs.Refusals.{flagRefusal, Fine}
+use Rattle.laws.proofs.HaltsAt.{NoFlag, at-end, above-1}
+use Rattle.laws.proofs.Walks.{Grown}
 use Rattle.laws.proofs.Reading.{ReadingIsTree}
 use Rattle.unit.specs.Answers.{refused, finishEnd, deliver}
 use Rattle.unit.specs.Reader.{noneAfter, rowsFrom, readTree}
-use Rattle.unit.specs.Exactly.{OneOf}
+use Rattle.unit.specs.Faults.{FlagFault, end-early, no-flag, run-over}
 
--- a refusal of flags: its number is 11, 12 or 13
+-- flags that are refused for a fault
 abbrev pub FlagsRefused : Kind → Node → List ℕ → Type 0
-FlagsRefused k n flags = (number place : ℕ) × OneOf number (11 ∷ 12 ∷ 13 ∷ []) × ((buffer : List ℕ) → readTree k n flags buffer ≡ refused number place buffer)
+FlagsRefused k n flags = (number place : ℕ) × FlagFault k n flags number place × ((buffer : List ℕ) → readTree k n flags buffer ≡ refused number place buffer)
 
 -- flags of a tree, or refused
 abbrev pub FlagsRead : Kind → Node → List ℕ → Type 0
 FlagsRead k n flags = ((t : Tree k n) × (flagsOf t ≡ flags)) ⊎ FlagsRefused k n flags
 
-in-flags : (a : ℕ) → flagRefusal a ≡ true → OneOf a (11 ∷ 12 ∷ 13 ∷ [])
-in-flags a h = go (eqb a 11) refl h
-  where
-    go : (b : Bool) → eqb a 11 ≡ b → (b || eqb a 12) ≡ true → OneOf a (11 ∷ 12 ∷ 13 ∷ [])
-    go true e h = inl (eqb-true a 11 e)
-    go false e h = inr (inl (eqb-true a 12 h))
+module _ {k : Kind} {n : Node} {flags : List ℕ} (t : Tree k n) where
+  -- where the reading stopped within a tree's flags
+  halt-fault : {a p : ℕ} (front : List ℕ) (flag : ℕ) (more : List ℕ) → flagsOf t ≡ front ++ (flag ∷ more) → Reads flags 0 front p → NoFlag flags a p → FlagFault k n flags a p
+  halt-fault front flag more is r at-end = end-early t flag more (subst (λ f. flagsOf t ≡ f ++ (flag ∷ more)) (reads-end r (omega arith)) is)
+  halt-fault front flag more is r (above-1 {at = at} l h) =
+      let e = reads-length r in
+      let place : length front ≡ at = omega arith in
+      subst (FlagFault k n flags 12) place (no-flag t front (getD flags at 0) (drop (suc at) flags) flag more (reads-seam r l) h is)
+
+  -- where the reading ended before the bytes
+  over-fault : {to : ℕ} → Reads flags 0 (flagsOf t) to → to < length flags → FlagFault k n flags 13 to
+  over-fault {to} r l =
+      let e = reads-length r in
+      let place : length (flagsOf t) ≡ to = omega arith in
+      subst (FlagFault k n flags 13) place (run-over t (getD flags to 0) (drop (suc to) flags) (reads-seam r l))
 
 module _ {k : Kind} {n : Node} (r : ReadingIsTree k n) where
   tree-rows : (t : Tree k n) → rowsFrom k n (flagsOf t) ≡ gives (rowsOf t) (length (flagsOf t))
@@ -50,14 +60,18 @@ module _ {k : Kind} {n : Node} (r : ReadingIsTree k n) where
 
   pub read-or-refused : (flags : List ℕ) → FlagsRead k n flags
   unfolding readTree rowsFrom finishEnd noneAfter
-  read-or-refused flags = go (readNode k flags n 0 .end) refl (r .refused flags 0)
+  read-or-refused flags = go (readNode k flags n 0 .end) refl
     where
       past : (to : ℕ) → readNode k flags n 0 .end ≡ goes to → (b : Bool) → ltb to (length flags) ≡ b → FlagsRead k n flags
-      past to e true l = inr (13, to, inr (inr (inl refl)), λ buffer. rw e (rw l))
-      past to e false l =
-          let g = r .exactly flags 0 (readNode k flags n 0 .given) to .0 (λ i. record { given = readNode k flags n 0 .given; end = e i }) in
-          inl (g .trees, reads-end (g .reads) (ltb-false to (length flags) l))
+      past to e b l = end b l (r .exactly flags 0 (readNode k flags n 0 .given) to .0 (λ i. record { given = readNode k flags n 0 .given; end = e i }))
+        where
+          end : (b : Bool) → ltb to (length flags) ≡ b → Grown k flags (n ∷ []) 0 (readNode k flags n 0 .given) to → FlagsRead k n flags
+          end true l g = inr (13, to, over-fault (g .trees) (g .reads) (ltb-true to (length flags) l), λ buffer. rw e (rw l))
+          end false l g = inl (g .trees, reads-end (g .reads) (ltb-false to (length flags) l))
 
-      go : (end : End ℕ) → readNode k flags n 0 .end ≡ end → Fine end → FlagsRead k n flags
-      go (stops a p) e f = inr (a, p, in-flags a f, λ buffer. rw e)
-      go (goes to) e f = past to e (ltb to (length flags)) refl
+      go : (end : End ℕ) → readNode k flags n 0 .end ≡ end → FlagsRead k n flags
+      go (stops a p) e =
+          let h = r .halted flags 0 a p (omega arith) e in
+          let b = h .begins in
+          inr (a, p, halt-fault (h .trees) (b .front) (b .flag) (b .more) (b .is) (b .reads) (b .fault), λ buffer. rw e)
+      go (goes to) e = past to e (ltb to (length flags)) refl

@@ -14,28 +14,20 @@ use Rattle.tree.specs.Rows.{tableBytes}
 use Rattle.tree.specs.Tree.{flagsOf, rowsOf}
 use Rattle.laws.proofs.Tests.{never}
 use Rattle.laws.proofs.Turning.{TurningIsTree}
-use Rattle.unit.specs.declared.Answer.the-variants.{Accepted}
-use Rattle.unit.specs.Answers.{numberOf, refused, deliver}
+use Rattle.unit.specs.declared.Answer.the-variants.{Accepted, Refused}
+use Rattle.unit.specs.Answers.{refused, deliver}
 use Rattle.unit.specs.Luma.{kindOf, rootAt}
 use Rattle.unit.specs.Writer.{writeTree, writeRows, writeFlags}
-use Rattle.unit.specs.Exactly.{UnitTree, OneOf, Bytes, TurnsExactly}
+use Rattle.unit.specs.Exactly.{UnitTree, AcceptedOr, Bytes, TurnsExactly}
 use Rattle.unit.proofs.Roots.{root-of}
 use Rattle.unit.proofs.RootTree.{root-turning, root-said, root-turns}
-use Rattle.unit.proofs.Accepts.{delivered, deliver-number, met-none}
+use Rattle.unit.proofs.Accepts.{delivered, undelivered, deliver-or, met-none}
 use Rattle.unit.proofs.Parsed.{rowsIn, bytes-back}
 use Rattle.unit.proofs.TreeTurning.{RowsTurned, tree-turned, turned-or-refused}
 
 -- bytes of a tree's rows, or refused
-abbrev Turned : Settings → ℕ → List ℕ → Type 0
+abbrev pub Turned : Settings → ℕ → List ℕ → Type 0
 Turned s a bytes = ((t : UnitTree s a) × (tableBytes (rowsOf t) ≡ bytes)) ⊎ ((buffer : List ℕ) → writeFlags s a bytes buffer ≡ refused 16 0 buffer)
-
-not-16 : {n : ℕ} → OneOf n (0 ∷ 17 ∷ []) → ¬ (n ≡ 16)
-not-16 (inl e) f = omega arith
-not-16 (inr (inl e)) f = omega arith
-
-of-delivery : {n : ℕ} → OneOf n (0 ∷ 17 ∷ []) → OneOf n (0 ∷ 15 ∷ 16 ∷ 17 ∷ [])
-of-delivery (inl e) = inl e
-of-delivery (inr o) = inr (inr (inr o))
 
 module _ (s : Settings) (a : ℕ) (h : unitRefusal s a ≡ 0) where
   unit-turning : TurningIsTree (kindOf s) (rootAt s a)
@@ -46,7 +38,7 @@ module _ (s : Settings) (a : ℕ) (h : unitRefusal s a ≡ 0) where
   unit-rows bytes buffer = rw (eq-eqb (unitRefusal s a) 0 h)
 
   -- bytes that are no whole rows
-  unit-cut : (bytes buffer : List ℕ) → (length bytes % 8 ≡ 0 → ⊥) → writeFlags s a bytes buffer ≡ refused 15 (length bytes / 8) buffer
+  pub unit-cut : (bytes buffer : List ℕ) → (length bytes % 8 ≡ 0 → ⊥) → writeFlags s a bytes buffer ≡ refused 15 (length bytes / 8) buffer
   unfolding writeRows
   unit-cut bytes buffer e = unit-rows bytes buffer ∙ rw (ne-eqb (length bytes % 8) 0 e)
 
@@ -59,7 +51,7 @@ module _ (s : Settings) (a : ℕ) (h : unitRefusal s a ≡ 0) where
   turns t buffer = unit-rows (tableBytes (rowsOf t)) buffer ∙ root-turns (root-of s a h) t buffer
 
   module _ (bytes : List ℕ) (small : Bytes bytes) where
-    turned : length bytes % 8 ≡ 0 → Turned s a bytes
+    pub turned : length bytes % 8 ≡ 0 → Turned s a bytes
     turned e = go (turned-or-refused unit-turning (rowsIn bytes))
       where
         go : RowsTurned (kindOf s) (rootAt s a) (rowsIn bytes) → Turned s a bytes
@@ -81,25 +73,25 @@ module _ (s : Settings) (a : ℕ) (h : unitRefusal s a ≡ 0) where
           go (inl t) = (t .0, t .1, delivered 17 _ _ buffer (rw (as-tree (t .0) (t .1)) at e) .0)
           go (inr f) = let g = f buffer in never (cc)
 
-      no-tree : length bytes % 8 ≡ 0 → (numberOf (writeFlags s a bytes buffer .answer) ≡ 16) ↔ ((t : UnitTree s a) → ¬ (tableBytes (rowsOf t) ≡ bytes))
-      no-tree e = (λ n t f. not-16 (deliver-number 17 _ _ buffer) (rw (as-tree t f) at n), λ none. go none (turned e))
+      no-tree : length bytes % 8 ≡ 0 → (writeFlags s a bytes buffer .answer ≡ Refused 16 0) ↔ ((t : UnitTree s a) → ¬ (tableBytes (rowsOf t) ≡ bytes))
+      no-tree e = (λ n t f. let d = undelivered 17 _ _ buffer (rw (as-tree t f) at n) .0 in omega arith, λ none. go none (turned e))
         where
-          go : ((t : UnitTree s a) → ¬ (tableBytes (rowsOf t) ≡ bytes)) → Turned s a bytes → numberOf (writeFlags s a bytes buffer .answer) ≡ 16
+          go : ((t : UnitTree s a) → ¬ (tableBytes (rowsOf t) ≡ bytes)) → Turned s a bytes → writeFlags s a bytes buffer .answer ≡ Refused 16 0
           go none (inl t) = absurd (none (t .0) (t .1))
           go none (inr f) = rw (f buffer)
 
   -- ---- the numbers
 
-  numbers : (bytes buffer : List ℕ) → OneOf (numberOf (writeFlags s a bytes buffer .answer)) (0 ∷ 15 ∷ 16 ∷ 17 ∷ [])
+  numbers : (bytes buffer : List ℕ) → AcceptedOr (15 ∷ 16 ∷ 17 ∷ []) (writeFlags s a bytes buffer .answer)
   numbers bytes buffer = go (ℕ-discrete (length bytes % 8) 0)
     where
-      whole-rows : length bytes % 8 ≡ 0 → RowsTurned (kindOf s) (rootAt s a) (rowsIn bytes) → OneOf (numberOf (writeFlags s a bytes buffer .answer)) (0 ∷ 15 ∷ 16 ∷ 17 ∷ [])
-      whole-rows e (inl t) = rw (unit-tree bytes buffer e, ← (t .1), tree-turned unit-turning (t .0) buffer) (of-delivery (deliver-number 17 _ _ buffer))
-      whole-rows e (inr f) = rw (unit-tree bytes buffer e, f buffer) (inr (inr (inl refl)))
+      whole-rows : length bytes % 8 ≡ 0 → RowsTurned (kindOf s) (rootAt s a) (rowsIn bytes) → AcceptedOr (15 ∷ 16 ∷ 17 ∷ []) (writeFlags s a bytes buffer .answer)
+      whole-rows e (inl t) = rw (unit-tree bytes buffer e, ← (t .1), tree-turned unit-turning (t .0) buffer) (deliver-or 17 _ _ buffer _ (inr (inr (inl refl))))
+      whole-rows e (inr f) = rw (unit-tree bytes buffer e, f buffer) (inr (inl refl))
 
-      go : Dec (length bytes % 8 ≡ 0) → OneOf (numberOf (writeFlags s a bytes buffer .answer)) (0 ∷ 15 ∷ 16 ∷ 17 ∷ [])
+      go : Dec (length bytes % 8 ≡ 0) → AcceptedOr (15 ∷ 16 ∷ 17 ∷ []) (writeFlags s a bytes buffer .answer)
       go (yes e) = whole-rows e (turned-or-refused unit-turning (rowsIn bytes))
-      go (no e) = rw (unit-cut bytes buffer e) (inr (inl refl))
+      go (no e) = rw (unit-cut bytes buffer e) (inl refl)
 
   pub turns-exactly : TurnsExactly s a
   turns-exactly = record {

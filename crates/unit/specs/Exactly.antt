@@ -7,8 +7,9 @@ use lib.ListN.{length}
 use Rattle.settings.specs.declared.Settings.{Settings}
 use Rattle.tree.specs.Rows.{tableBytes}
 use Rattle.tree.specs.Tree.{Tree, flagsOf, rowsOf}
-use Rattle.unit.specs.declared.Answer.the-variants.{Accepted}
-use Rattle.unit.specs.Answers.{numberOf, deliver}
+use Rattle.unit.specs.declared.Answer.{Answer}
+use Rattle.unit.specs.declared.Answer.the-variants.{Accepted, Refused}
+use Rattle.unit.specs.Answers.{deliver}
 use Rattle.unit.specs.Luma.{kindOf, rootAt}
 use Rattle.unit.specs.Reader.{readUnit}
 use Rattle.unit.specs.Writer.{writeFlags}
@@ -22,7 +23,12 @@ abbrev pub OneOf : ℕ → List ℕ → Type 0
 OneOf n [] = ⊥
 OneOf n (m ∷ ms) = (n ≡ m) ⊎ OneOf n ms
 
--- every number of a list is a byte
+-- an answer that accepts, or refuses with one of these numbers; 0 is none of them, so no refusal has the number of an accepted call
+abbrev pub AcceptedOr : List ℕ → Answer → Type 0
+AcceptedOr numbers (Accepted count) = Unit {0}
+AcceptedOr numbers (Refused number place) = OneOf number numbers
+
+-- every number of a list is a byte: so are the contents of a lent `&[u8]`, by its type
 abbrev pub Bytes : List ℕ → Type 0
 Bytes [] = Unit {0}
 Bytes (b ∷ bs) = (b < 256) × Bytes bs
@@ -33,7 +39,7 @@ pub record ReadsExactly (s : Settings) (a : ℕ) : Type 0 where
   pub reads : (t : UnitTree s a) (buffer : List ℕ) → readUnit s a (flagsOf t) buffer ≡ deliver 14 (length (rowsOf t)) (tableBytes (rowsOf t)) buffer
   pub only : (flags buffer : List ℕ) (m : ℕ) → readUnit s a flags buffer .answer ≡ Accepted m → (t : UnitTree s a) × (flagsOf t ≡ flags)
   pub unique : (t u : UnitTree s a) → flagsOf t ≡ flagsOf u → t ≡ u
-  pub refused : (flags buffer : List ℕ) → OneOf (numberOf (readUnit s a flags buffer .answer)) (0 ∷ 11 ∷ 12 ∷ 13 ∷ 14 ∷ [])
+  pub numbers : (flags buffer : List ℕ) → AcceptedOr (11 ∷ 12 ∷ 13 ∷ 14 ∷ []) (readUnit s a flags buffer .answer)
 
 -- Its rows are turned back exactly so: the bytes of a tree's rows give its flags, no other bytes are accepted, whole rows are refused with 16 exactly
 -- where no tree has them, rows belong to one tree at most, and what is not accepted is refused with 15 to 17.
@@ -42,6 +48,6 @@ pub record TurnsExactly (s : Settings) (a : ℕ) : Type 0 where
   pub only : (bytes : List ℕ) → Bytes bytes → (buffer : List ℕ) (m : ℕ) → writeFlags s a bytes buffer .answer ≡ Accepted m
       → (t : UnitTree s a) × (tableBytes (rowsOf t) ≡ bytes) × (length (flagsOf t) ≡ m)
   pub refused : (bytes : List ℕ) → Bytes bytes → length bytes % 8 ≡ 0 → (buffer : List ℕ)
-      → (numberOf (writeFlags s a bytes buffer .answer) ≡ 16) ↔ ((t : UnitTree s a) → ¬ (tableBytes (rowsOf t) ≡ bytes))
+      → (writeFlags s a bytes buffer .answer ≡ Refused 16 0) ↔ ((t : UnitTree s a) → ¬ (tableBytes (rowsOf t) ≡ bytes))
   pub unique : (t u : UnitTree s a) → tableBytes (rowsOf t) ≡ tableBytes (rowsOf u) → t ≡ u
-  pub numbers : (bytes buffer : List ℕ) → OneOf (numberOf (writeFlags s a bytes buffer .answer)) (0 ∷ 15 ∷ 16 ∷ 17 ∷ [])
+  pub numbers : (bytes buffer : List ℕ) → AcceptedOr (15 ∷ 16 ∷ 17 ∷ []) (writeFlags s a bytes buffer .answer)

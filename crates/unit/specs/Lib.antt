@@ -4,3 +4,7 @@ pub mod Reader
 pub mod Writer
 pub mod Cases
 pub mod Exactly
+pub mod Faults
+pub mod Demand2
+pub mod Bounds
+pub mod Edge

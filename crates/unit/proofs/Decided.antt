@@ -1,0 +1,148 @@
+-- The two calls on a single unit are decided by their faults.
+use Prim.Native.Nat.{ℕ, _*_, _%_, _<_}
+use mathlib.Core.Path.{_≡_, refl, sym, ap, subst, _∙_}
+use mathlib.Core.List.{List}
+use mathlib.Core.Logic.{_⊎_, inl, inr}
+use native.Mathlib.Omega.{arith}
+use native.Mathlib.Decide.{ℕ-discrete}
+use borrow.Author.Tests.{ne-eqb}
+use lib.ListN.{length}
+use Rattle.settings.specs.declared.Settings.{Settings}
+use Rattle.settings.specs.Units.{unitRefusal}
+use Rattle.tree.specs.Rows.{tableBytes}
+use Rattle.tree.specs.Tree.{flagsOf, rowsOf}
+use Rattle.laws.proofs.Tests.{never}
+use Rattle.unit.specs.declared.Answer.{Answer}
+use Rattle.unit.specs.declared.Answer.the-variants.{Accepted, Refused}
+use Rattle.unit.specs.Answers.{Outcome, refused, deliver}
+use Rattle.unit.specs.Luma.{kindOf, rootAt}
+use Rattle.unit.specs.Reader.{readUnit}
+use Rattle.unit.specs.Writer.{writeFlags}
+use Rattle.unit.specs.Exactly.{UnitTree, Bytes}
+use Rattle.unit.specs.Faults.{UnitFault, FlagFault, ReadFault, read-unit, read-flags, read-room, TurnFault, turn-unit, turn-cut, turn-none, turn-room, Decides}
+use Rattle.unit.proofs.Accepts.{deliver-short, undelivered}
+use Rattle.unit.proofs.FlagFaults.{fault-once, no-fault}
+use Rattle.unit.proofs.Parsed.{table-length}
+use Rattle.unit.proofs.RootTree.{root-reading}
+use Rattle.unit.proofs.Roots.{root-of}
+use Rattle.unit.proofs.ReadsExactly.{reads-exactly, unit-read}
+use Rattle.unit.proofs.TurnsExactly.{turns-exactly, Turned, turned, unit-cut}
+use Rattle.unit.proofs.TreeReading.{FlagsRead, read-or-refused}
+use Rattle.unit.proofs.UnitFaults.{unit-fault, unit-refused}
+
+-- a call whose refusals are its faults, and whose faults are its refusals
+pub decides : (Fault : ℕ → ℕ → Type 0) (o : Outcome) (buffer : List ℕ) → ((number place : ℕ) → o .answer ≡ Refused number place → Fault number place)
+    → ((number place : ℕ) → Fault number place → o ≡ refused number place buffer) → Decides Fault (o .answer) buffer (o .buffer)
+decides Fault o buffer sound complete = record {
+  refuses = λ number place. (sound number place, λ f. ap (λ x. x .answer) (complete number place f));
+  accepts = (λ x number place f. let e = ap (λ y. y .answer) (complete number place f) in let g = x .1 in never (cc), λ none. go (o .answer) refl none);
+  leaves = λ number place e. ap (λ x. x .buffer) (complete number place (sound number place e));
+}
+  where
+    go : (answer : Answer) → o .answer ≡ answer → ((number place : ℕ) → ¬ Fault number place) → (count : ℕ) × (o .answer ≡ Accepted count)
+    go (Accepted count) e none = (count, e)
+    go (Refused number place) e none = absurd (none number place (sound number place e))
+
+-- the fault of a refusal is that of the same refusal
+pub same-fault : (Fault : ℕ → ℕ → Type 0) {a p number place : ℕ} → Fault a p → a ≡ number → p ≡ place → Fault number place
+same-fault Fault {a} {p} {number} {place} f e g = subst (λ x. Fault x place) e (subst (Fault a) g f)
+
+module _ (s : Settings) (a : ℕ) (flags buffer : List ℕ) where
+  -- the reading of a unit that is not there
+  unread : ¬ (unitRefusal s a ≡ 0) → readUnit s a flags buffer ≡ refused (unitRefusal s a) 0 buffer
+  unfolding readUnit
+  unread h = rw (ne-eqb (unitRefusal s a) 0 h)
+
+  abbrev Fault : ℕ → ℕ → Type 0
+  Fault number place = ReadFault s a flags (length buffer) number place
+
+  read-fault : (number place : ℕ) → readUnit s a flags buffer .answer ≡ Refused number place → Fault number place
+  read-fault number place e = go (ℕ-discrete (unitRefusal s a) 0)
+    where
+      there : unitRefusal s a ≡ 0 → FlagsRead (kindOf s) (rootAt s a) flags → Fault number place
+      there h (inl t) =
+          let d = undelivered 14 (length (rowsOf (t .0))) (tableBytes (rowsOf (t .0))) buffer (rw (← (t .1), reads-exactly s a h .reads (t .0) buffer) at e) in
+          let n = table-length (rowsOf (t .0)) in
+          let l = d .2 in
+          same-fault Fault (read-room h (t .0) (t .1) (omega arith)) (d .0) (d .1)
+      there h (inr f) =
+          let g : Refused (f .0) (f .1) ≡ Refused number place = ap (λ o. o .answer) (sym (unit-read s a h flags buffer ∙ f .3 buffer)) ∙ e in
+          let x : f .0 ≡ number = cc in
+          let y : f .1 ≡ place = cc in
+          same-fault Fault (read-flags h (f .2)) x y
+
+      go : Dec (unitRefusal s a ≡ 0) → Fault number place
+      go (yes h) = there h (read-or-refused (root-reading (root-of s a h)) flags)
+      go (no h) =
+          let g : Refused (unitRefusal s a) 0 ≡ Refused number place = ap (λ o. o .answer) (sym (unread h)) ∙ e in
+          let x : unitRefusal s a ≡ number = cc in
+          let y : 0 ≡ place = cc in
+          same-fault Fault (read-unit (unit-fault s a (unitRefusal s a) refl (omega arith))) x y
+
+  read-refused : (number place : ℕ) → Fault number place → readUnit s a flags buffer ≡ refused number place buffer
+  read-refused number place (read-unit f) =
+      let u = unit-refused s a f in
+      let e = u .0 in
+      let l = u .1 in
+      unread (λ z. omega arith) ∙ rw (u .0)
+  read-refused number place (read-flags h f) = go (read-or-refused (root-reading (root-of s a h)) flags)
+    where
+      go : FlagsRead (kindOf s) (rootAt s a) flags → readUnit s a flags buffer ≡ refused number place buffer
+      go (inl t) = absurd (no-fault (t .0) (t .1) f)
+      go (inr g) = let o = fault-once (g .2) f in unit-read s a h flags buffer ∙ g .3 buffer ∙ rw (o .0, o .1)
+  read-refused number place (read-room h t e l) =
+      let n = table-length (rowsOf t) in
+      rw (← e) (reads-exactly s a h .reads t buffer ∙ deliver-short 14 _ _ buffer (omega arith))
+
+  pub reading-decides : Decides Fault (readUnit s a flags buffer .answer) buffer (readUnit s a flags buffer .buffer)
+  reading-decides = decides Fault (readUnit s a flags buffer) buffer read-fault read-refused
+
+module _ (s : Settings) (a : ℕ) (bytes : List ℕ) (small : Bytes bytes) (buffer : List ℕ) where
+  -- the way back of a unit that is not there
+  unturned : ¬ (unitRefusal s a ≡ 0) → writeFlags s a bytes buffer ≡ refused (unitRefusal s a) 0 buffer
+  unfolding writeFlags
+  unturned h = rw (ne-eqb (unitRefusal s a) 0 h)
+
+  abbrev Wrong : ℕ → ℕ → Type 0
+  Wrong number place = TurnFault s a bytes (length buffer) number place
+
+  turn-fault : (number place : ℕ) → writeFlags s a bytes buffer .answer ≡ Refused number place → Wrong number place
+  turn-fault number place e = go (ℕ-discrete (unitRefusal s a) 0)
+    where
+      from : {k p : ℕ} → Wrong k p → writeFlags s a bytes buffer ≡ refused k p buffer → Wrong number place
+      from {k} {p} f w =
+          let g : Refused k p ≡ Refused number place = ap (λ o. o .answer) (sym w) ∙ e in
+          let x : k ≡ number = cc in
+          let y : p ≡ place = cc in
+          same-fault Wrong f x y
+
+      rows : unitRefusal s a ≡ 0 → length bytes % 8 ≡ 0 → Turned s a bytes → Wrong number place
+      rows h w (inl t) =
+          let d = undelivered 17 (length (flagsOf (t .0))) (flagsOf (t .0)) buffer (rw (← (t .1), turns-exactly s a h .turns (t .0) buffer) at e) in
+          same-fault Wrong (turn-room h (t .0) (t .1) (d .2)) (d .0) (d .1)
+      rows h w (inr f) = from (turn-none h w (turns-exactly s a h .refused bytes small w buffer .0 (rw (f buffer)))) (f buffer)
+
+      there : unitRefusal s a ≡ 0 → Dec (length bytes % 8 ≡ 0) → Wrong number place
+      there h (yes w) = rows h w (turned s a h bytes small w)
+      there h (no w) = from (turn-cut h w) (unit-cut s a h bytes buffer w)
+
+      go : Dec (unitRefusal s a ≡ 0) → Wrong number place
+      go (yes h) = there h (ℕ-discrete (length bytes % 8) 0)
+      go (no h) = from (turn-unit (unit-fault s a (unitRefusal s a) refl (omega arith))) (unturned h)
+
+  turn-refused : (number place : ℕ) → Wrong number place → writeFlags s a bytes buffer ≡ refused number place buffer
+  turn-refused number place (turn-unit f) =
+      let u = unit-refused s a f in
+      let e = u .0 in
+      let l = u .1 in
+      unturned (λ z. omega arith) ∙ rw (u .0)
+  turn-refused number place (turn-cut h w) = unit-cut s a h bytes buffer w
+  turn-refused number place (turn-none h w none) = go (turned s a h bytes small w)
+    where
+      go : Turned s a bytes → writeFlags s a bytes buffer ≡ refused 16 0 buffer
+      go (inl t) = absurd (none (t .0) (t .1))
+      go (inr f) = f buffer
+  turn-refused number place (turn-room h t e l) = rw (← e) (turns-exactly s a h .turns t buffer ∙ deliver-short 17 _ _ buffer l)
+
+  pub turning-decides : Decides Wrong (writeFlags s a bytes buffer .answer) buffer (writeFlags s a bytes buffer .buffer)
+  turning-decides = decides Wrong (writeFlags s a bytes buffer) buffer turn-fault turn-refused
