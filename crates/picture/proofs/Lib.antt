@@ -4,4 +4,5 @@ pub mod Samples
 pub mod OneTree
 pub mod StateCalls
 pub mod LumaUnits
+pub mod Demand1
 pub mod Demand

@@ -1,7 +1,7 @@
 -- The two calls on a single unit are decided by their faults.
 use Prim.Native.Nat.{ℕ, _*_, _%_, _<_}
 use mathlib.Core.Path.{_≡_, refl, sym, ap, subst, _∙_}
-use mathlib.Core.List.{List}
+use mathlib.Core.List.{List, [], _∷_}
 use mathlib.Core.Logic.{_⊎_, inl, inr}
 use native.Mathlib.Omega.{arith}
 use native.Mathlib.Decide.{ℕ-discrete}
@@ -18,30 +18,42 @@ use Rattle.unit.specs.Answers.{Outcome, refused, deliver}
 use Rattle.unit.specs.Luma.{kindOf, rootAt}
 use Rattle.unit.specs.Reader.{readUnit}
 use Rattle.unit.specs.Writer.{writeFlags}
-use Rattle.unit.specs.Exactly.{UnitTree, Bytes}
-use Rattle.unit.specs.Faults.{UnitFault, FlagFault, ReadFault, read-unit, read-flags, read-room, TurnFault, turn-unit, turn-cut, turn-none, turn-room, Decides}
+use Rattle.unit.specs.Exactly.{OneOf, AcceptedOr, Bytes}
+use Rattle.unit.specs.Faults.{UnitFault, FlagFault, ReadFault, read-unit, read-flags, read-room, TurnFault, turn-unit, turn-cut, turn-none, turn-room, readNumbers, turnNumbers, Decides}
 use Rattle.unit.proofs.Accepts.{deliver-short, undelivered}
 use Rattle.unit.proofs.FlagFaults.{fault-once, no-fault}
 use Rattle.unit.proofs.Parsed.{table-length}
 use Rattle.unit.proofs.RootTree.{root-reading}
 use Rattle.unit.proofs.Roots.{root-of}
-use Rattle.unit.proofs.ReadsExactly.{reads-exactly, unit-read}
+use Rattle.unit.proofs.ReadsExactly.{reads-exactly, unit-read, fault-number}
 use Rattle.unit.proofs.TurnsExactly.{turns-exactly, Turned, turned, unit-cut}
 use Rattle.unit.proofs.TreeReading.{FlagsRead, read-or-refused}
-use Rattle.unit.proofs.UnitFaults.{unit-fault, unit-refused}
+use Rattle.unit.proofs.UnitFaults.{one-of-more, one-of-later, unitNumbers, unit-fault, unit-refused, unit-number}
 
--- a call whose refusals are its faults, and whose faults are its refusals
-pub decides : (Fault : ℕ → ℕ → Type 0) (o : Outcome) (buffer : List ℕ) → ((number place : ℕ) → o .answer ≡ Refused number place → Fault number place)
-    → ((number place : ℕ) → Fault number place → o ≡ refused number place buffer) → Decides Fault (o .answer) buffer (o .buffer)
-decides Fault o buffer sound complete = record {
-  refuses = λ number place. (sound number place, λ f. ap (λ x. x .answer) (complete number place f));
-  accepts = (λ x number place f. let e = ap (λ y. y .answer) (complete number place f) in let g = x .1 in never (cc), λ none. go (o .answer) refl none);
-  leaves = λ number place e. ap (λ x. x .buffer) (complete number place (sound number place e));
-}
-  where
-    go : (answer : Answer) → o .answer ≡ answer → ((number place : ℕ) → ¬ Fault number place) → (count : ℕ) × (o .answer ≡ Accepted count)
-    go (Accepted count) e none = (count, e)
-    go (Refused number place) e none = absurd (none number place (sound number place e))
+-- a call whose refusals are its faults, and whose faults are its refusals, with a number of its list
+module _ {Lent : Type 0} (Fault : ℕ → ℕ → Type 0) (numbers : List ℕ) {answer : Answer} {lent left : Lent}
+    (sound : (number place : ℕ) → answer ≡ Refused number place → Fault number place)
+    (complete : (number place : ℕ) → Fault number place → (answer ≡ Refused number place) × (left ≡ lent))
+    (listed : (number place : ℕ) → Fault number place → OneOf number numbers) where
+  answers : (a : Answer) → answer ≡ a → AcceptedOr numbers a
+  answers (Accepted count) e = tt
+  answers (Refused number place) e = listed number place (sound number place e)
+
+  free : (a : Answer) → answer ≡ a → ((number place : ℕ) → ¬ Fault number place) → (count : ℕ) × (answer ≡ Accepted count)
+  free (Accepted count) e none = (count, e)
+  free (Refused number place) e none = absurd (none number place (sound number place e))
+
+  pub decides : Decides Fault numbers answer lent left
+  decides = record {
+    uses = answers answer refl;
+    refuses = λ number place. (sound number place, λ f. complete number place f .0);
+    accepts = (λ x number place f. let e = complete number place f .0 in let g = x .1 in never (cc), free answer refl);
+    leaves = λ number place e. complete number place (sound number place e) .1;
+  }
+
+-- an outcome that is a refusal: its answer, and the buffer as it was
+pub is-refused : {o : Outcome} {number place : ℕ} {buffer : List ℕ} → o ≡ refused number place buffer → (o .answer ≡ Refused number place) × (o .buffer ≡ buffer)
+is-refused e = (ap (λ o. o .answer) e, ap (λ o. o .buffer) e)
 
 -- the fault of a refusal is that of the same refusal
 pub same-fault : (Fault : ℕ → ℕ → Type 0) {a p number place : ℕ} → Fault a p → a ≡ number → p ≡ place → Fault number place
@@ -79,7 +91,7 @@ module _ (s : Settings) (a : ℕ) (flags buffer : List ℕ) where
           let y : 0 ≡ place = cc in
           same-fault Fault (read-unit (unit-fault s a (unitRefusal s a) refl (omega arith))) x y
 
-  read-refused : (number place : ℕ) → Fault number place → readUnit s a flags buffer ≡ refused number place buffer
+  pub read-refused : (number place : ℕ) → Fault number place → readUnit s a flags buffer ≡ refused number place buffer
   read-refused number place (read-unit f) =
       let u = unit-refused s a f in
       let e = u .0 in
@@ -94,8 +106,13 @@ module _ (s : Settings) (a : ℕ) (flags buffer : List ℕ) where
       let n = table-length (rowsOf t) in
       rw (← e) (reads-exactly s a h .reads t buffer ∙ deliver-short 14 _ _ buffer (omega arith))
 
-  pub reading-decides : Decides Fault (readUnit s a flags buffer .answer) buffer (readUnit s a flags buffer .buffer)
-  reading-decides = decides Fault (readUnit s a flags buffer) buffer read-fault read-refused
+  read-number : (number place : ℕ) → Fault number place → OneOf number readNumbers
+  read-number number place (read-unit f) = one-of-more number unitNumbers (11 ∷ 12 ∷ 13 ∷ 14 ∷ []) (unit-number s a f)
+  read-number number place (read-flags h f) = one-of-later number unitNumbers (11 ∷ 12 ∷ 13 ∷ 14 ∷ []) (fault-number f)
+  read-number number place (read-room h t e l) = one-of-later 14 unitNumbers (11 ∷ 12 ∷ 13 ∷ 14 ∷ []) (inr (inr (inr (inl refl))))
+
+  pub reading-decides : Decides Fault readNumbers (readUnit s a flags buffer .answer) buffer (readUnit s a flags buffer .buffer)
+  reading-decides = decides Fault readNumbers read-fault (λ number place f. is-refused (read-refused number place f)) read-number
 
 module _ (s : Settings) (a : ℕ) (bytes : List ℕ) (small : Bytes bytes) (buffer : List ℕ) where
   -- the way back of a unit that is not there
@@ -144,5 +161,11 @@ module _ (s : Settings) (a : ℕ) (bytes : List ℕ) (small : Bytes bytes) (buff
       go (inr f) = f buffer
   turn-refused number place (turn-room h t e l) = rw (← e) (turns-exactly s a h .turns t buffer ∙ deliver-short 17 _ _ buffer l)
 
-  pub turning-decides : Decides Wrong (writeFlags s a bytes buffer .answer) buffer (writeFlags s a bytes buffer .buffer)
-  turning-decides = decides Wrong (writeFlags s a bytes buffer) buffer turn-fault turn-refused
+  turn-number : (number place : ℕ) → Wrong number place → OneOf number turnNumbers
+  turn-number number place (turn-unit f) = one-of-more number unitNumbers (15 ∷ 16 ∷ 17 ∷ []) (unit-number s a f)
+  turn-number number place (turn-cut h w) = one-of-later 15 unitNumbers (15 ∷ 16 ∷ 17 ∷ []) (inl refl)
+  turn-number number place (turn-none h w none) = one-of-later 16 unitNumbers (15 ∷ 16 ∷ 17 ∷ []) (inr (inl refl))
+  turn-number number place (turn-room h t e l) = one-of-later 17 unitNumbers (15 ∷ 16 ∷ 17 ∷ []) (inr (inr (inl refl)))
+
+  pub turning-decides : Decides Wrong turnNumbers (writeFlags s a bytes buffer .answer) buffer (writeFlags s a bytes buffer .buffer)
+  turning-decides = decides Wrong turnNumbers turn-fault (λ number place f. is-refused (turn-refused number place f)) turn-number

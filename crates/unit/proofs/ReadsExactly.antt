@@ -26,7 +26,7 @@ use Rattle.unit.proofs.Accepts.{deliver-or}
 use Rattle.unit.proofs.TreeReading.{FlagsRead, tree-read, read-or-refused}
 
 -- the numbers of refused flags, and that of a delivery, are among all
-fault-number : {k : Kind} {n : Node} {flags : List ℕ} {number place : ℕ} → FlagFault k n flags number place → OneOf number (11 ∷ 12 ∷ 13 ∷ 14 ∷ [])
+pub fault-number : {k : Kind} {n : Node} {flags : List ℕ} {number place : ℕ} → FlagFault k n flags number place → OneOf number (11 ∷ 12 ∷ 13 ∷ 14 ∷ [])
 fault-number (end-early t flag more e) = inl refl
 fault-number (no-flag t front byte after flag more e l f) = inr (inl refl)
 fault-number (run-over t byte after e) = inr (inr (inl refl))

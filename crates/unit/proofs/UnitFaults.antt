@@ -13,6 +13,22 @@ use Rattle.settings.specs.Units.{unitCount, unitRefusal}
 use Rattle.unit.specs.Exactly.{OneOf}
 use Rattle.unit.specs.Faults.{SettingsFault, UnitFault, bad-settings, no-unit}
 
+-- ---- numbers of lists
+
+pub one-of-more : (n : ℕ) (first rest : List ℕ) → OneOf n first → OneOf n (first ++ rest)
+one-of-more n (m ∷ first) rest (inl e) = inl e
+one-of-more n (m ∷ first) rest (inr o) = inr (one-of-more n first rest o)
+
+pub one-of-later : (n : ℕ) (first rest : List ℕ) → OneOf n rest → OneOf n (first ++ rest)
+one-of-later n [] rest o = o
+one-of-later n (m ∷ first) rest o = inr (one-of-later n first rest o)
+
+abbrev settingsNumbers : List ℕ
+settingsNumbers = 1 ∷ 2 ∷ 3 ∷ 4 ∷ 5 ∷ 6 ∷ 7 ∷ 8 ∷ 9 ∷ []
+
+abbrev pub unitNumbers : List ℕ
+unitNumbers = 1 ∷ 2 ∷ 3 ∷ 4 ∷ 5 ∷ 6 ∷ 7 ∷ 8 ∷ 9 ∷ 10 ∷ []
+
 -- ---- the numbers of a list of rules
 
 abbrev numbersFrom : ℕ → List Bool → List ℕ
@@ -30,15 +46,15 @@ hit-number k (false ∷ rules) = go (hit-number (k + 1) rules)
     go (inr o) = inr (inr o)
 
 module _ (s : Settings) where
-  settings-fault : (number : ℕ) → settingsRefusal s ≡ number → 0 < number → SettingsFault s number
+  pub settings-fault : (number : ℕ) → settingsRefusal s ≡ number → 0 < number → SettingsFault s number
   unfolding settingsRefusal
   settings-fault number e l = go (hit-number 1 (sideRules s ++ (limitRules s ++ pictureRules s)))
     where
-      go : (settingsRefusal s ≡ 0) ⊎ OneOf (settingsRefusal s) (1 ∷ 2 ∷ 3 ∷ 4 ∷ 5 ∷ 6 ∷ 7 ∷ 8 ∷ 9 ∷ []) → SettingsFault s number
+      go : (settingsRefusal s ≡ 0) ⊎ OneOf (settingsRefusal s) settingsNumbers → SettingsFault s number
       go (inl z) = absurd (omega arith)
       go (inr o) = (e, rw (← e) o)
 
-  settings-range : {number : ℕ} → OneOf number (1 ∷ 2 ∷ 3 ∷ 4 ∷ 5 ∷ 6 ∷ 7 ∷ 8 ∷ 9 ∷ []) → (0 < number) × (number ≤ 9)
+  settings-range : {number : ℕ} → OneOf number settingsNumbers → (0 < number) × (number ≤ 9)
   settings-range (inl e) = omega arith
   settings-range (inr (inl e)) = omega arith
   settings-range (inr (inr (inl e))) = omega arith
@@ -69,6 +85,10 @@ module _ (s : Settings) where
         let e = f .0 in
         (rw (ne-eqb (settingsRefusal s) 0 (λ z. omega arith)) e, l)
     unit-refused (no-unit z l) = (rw (eq-eqb (settingsRefusal s) 0 z, le-leb (unitCount s) a l), omega arith)
+
+    pub unit-number : {number : ℕ} → UnitFault s a number → OneOf number unitNumbers
+    unit-number {number} (bad-settings f) = one-of-more number settingsNumbers (10 ∷ []) (f .1)
+    unit-number (no-unit z l) = one-of-later 10 settingsNumbers (10 ∷ []) (inl refl)
 
     pub unit-most : {number : ℕ} → UnitFault s a number → number ≤ 10
     unit-most (bad-settings f) = let r = settings-range (f .1) in omega arith

@@ -15,7 +15,7 @@ use Rattle.tree.specs.Tree.{Tree, flagsOf, rowsOf}
 use Rattle.unit.specs.declared.Answer.{Answer}
 use Rattle.unit.specs.declared.Answer.the-variants.{Accepted, Refused}
 use Rattle.unit.specs.Luma.{kindOf, rootAt}
-use Rattle.unit.specs.Exactly.{UnitTree, OneOf}
+use Rattle.unit.specs.Exactly.{UnitTree, OneOf, AcceptedOr}
 
 -- ---- the settings and the unit
 
@@ -58,9 +58,17 @@ pub data TurnFault (s : Settings) (a : ℕ) (bytes : List ℕ) (room : ℕ) : �
 
 -- ---- a call that its faults decide
 
--- By its answer and what it was lent, before and after: it is refused with a number and a place exactly where this is its fault; where it has none it is accepted,
--- and only there; and a refusal leaves what was lent as it was.
-pub record Decides {Lent : Type 0} (Fault : ℕ → ℕ → Type 0) (answer : Answer) (lent left : Lent) : Type 0 where
+-- document 01: "A single unit's reader uses 1 to 14, the way back 1 to 10 and 15 to 17"
+abbrev pub readNumbers : List ℕ
+readNumbers = 1 ∷ 2 ∷ 3 ∷ 4 ∷ 5 ∷ 6 ∷ 7 ∷ 8 ∷ 9 ∷ 10 ∷ 11 ∷ 12 ∷ 13 ∷ 14 ∷ []
+
+abbrev pub turnNumbers : List ℕ
+turnNumbers = 1 ∷ 2 ∷ 3 ∷ 4 ∷ 5 ∷ 6 ∷ 7 ∷ 8 ∷ 9 ∷ 10 ∷ 15 ∷ 16 ∷ 17 ∷ []
+
+-- A call with an answer, by the faults that it may have, the numbers that it uses, and what it was lent, before and after: its answer accepts, or refuses with one of
+-- the numbers; it refuses with a number and a place exactly where these are its fault's; it accepts exactly where it has none; and a refusal leaves what was lent as it was.
+pub record Decides {Lent : Type 0} (Fault : ℕ → ℕ → Type 0) (numbers : List ℕ) (answer : Answer) (lent left : Lent) : Type 0 where
+  pub uses : AcceptedOr numbers answer
   pub refuses : (number place : ℕ) → (answer ≡ Refused number place) ↔ Fault number place
   pub accepts : ((count : ℕ) × (answer ≡ Accepted count)) ↔ ((number place : ℕ) → ¬ Fault number place)
   pub leaves : (number place : ℕ) → answer ≡ Refused number place → left ≡ lent
