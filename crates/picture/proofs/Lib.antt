@@ -5,4 +5,4 @@ pub mod OneTree
 pub mod StateCalls
 pub mod LumaUnits
 pub mod Demand1
-pub mod Demand
+pub mod Demand3

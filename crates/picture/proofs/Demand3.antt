@@ -19,7 +19,7 @@ use Rattle.picture.specs.declared.Session.{Session}
 use Rattle.picture.specs.declared.Opened.the-variants.{Fresh, Refused}
 use Rattle.picture.specs.Session.{Call, opening, badSession, isComplete, unitCall, following}
 use Rattle.picture.specs.OneTree.{greyscale}
-use Rattle.picture.specs.Demand.{After, Demand3}
+use Rattle.picture.specs.Demand3.{After, Demand3}
 use Rattle.picture.proofs.OneTree.{UnitLaws, SessionLaws, one-tree}
 use Rattle.picture.proofs.StateCalls.{state-laws}
 use Rattle.picture.proofs.LumaUnits.{luma-laws}
