@@ -1,14 +1,17 @@
 -- What the engine returns, passed on as words.
 use Prim.Native.Nat.{ℕ}
 use mathlib.Core.Path.{_≡_, ap, subst, _∙_}
-use mathlib.Core.List.{List}
+use mathlib.Core.List.{List, [], _∷_}
 use Rattle.settings.specs.declared.Settings.{Settings}
+use Rattle.settings.specs.declared.Count.{Count}
+use Rattle.settings.specs.Units.{countOf, countNumber}
 use Rattle.settings.specs.Words.{settingsIn}
 use Rattle.unit.specs.declared.Answer.{Answer}
 use Rattle.unit.specs.Answers.{Outcome, Meets}
 use Rattle.picture.specs.declared.Called.{Called}
-use Rattle.picture.specs.Session.{Call, Yields}
-use Rattle.colwythar.specs.Words.{sessionIn, answerWords, Leaves, Moves}
+use Rattle.picture.specs.declared.Opened.{Opened}
+use Rattle.picture.specs.Session.{openedNumber, opening, Call, Yields}
+use Rattle.colwythar.specs.Words.{sessionIn, answerWords, dueAfter, unitsOf, countWords, Leaves, Opens, Moves}
 
 -- one unit, whichever way: the settings that were read from the words are the words' settings
 pub passed-on : (words : List ℕ) {s : Settings} → s ≡ settingsIn words → (outcome : Settings → Outcome) {a : Answer} {answer left : List ℕ}
@@ -26,3 +29,13 @@ moved-on words e {due} {c} {r} {answer} {left} y w =
       next = ap (λ (x : Called). x .session .due) (z .returns);
       outcome = record { answers = w ∙ ap (λ (x : Called). answerWords (x .answer)) (z .returns); leaves = z .leaves };
     }
+
+-- an opening: its words, and the address due after it
+pub opened-to : (words : List ℕ) (due : ℕ) {s : Settings} → s ≡ settingsIn words → {o : Opened} → o ≡ opening s → {number next : ℕ} → number ≡ openedNumber o → next ≡ dueAfter o due
+    → Opens (opening (settingsIn words)) due next (number ∷ 0 ∷ [])
+opened-to words due e f n d = record { answers = rw (← e, ← f, n); moves = rw (← e, ← f, d) }
+
+-- a count of units
+pub counted-to : (words : List ℕ) {s : Settings} → s ≡ settingsIn words → {k : Count} → k ≡ countOf s → {number units : ℕ} → number ≡ countNumber k → units ≡ unitsOf k
+    → _≡_ {A = List ℕ} (number ∷ units ∷ []) (countWords (countOf (settingsIn words)))
+counted-to words e f n u = rw (← e, ← f, n, u)

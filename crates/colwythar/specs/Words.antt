@@ -2,23 +2,47 @@
 use Prim.Native.Nat.{ℕ}
 use mathlib.Core.Path.{_≡_}
 use mathlib.Core.List.{List, [], _∷_}
+use Rattle.settings.specs.declared.Count.{Count}
+use Rattle.settings.specs.declared.Count.the-variants as count
+use Rattle.settings.specs.Units.{countNumber}
 use Rattle.settings.specs.Words.{settingsIn}
 use Rattle.unit.specs.declared.Answer.{Answer}
 use Rattle.unit.specs.Answers.{numberOf, valueOf, Outcome}
 use Rattle.picture.specs.declared.Session.{Session}
 use Rattle.picture.specs.declared.Opened.{Opened}
+use Rattle.picture.specs.declared.Opened.the-variants as opened
 use Rattle.picture.specs.Session.{openedNumber, Call, unitCall, following}
 
 -- a session is its settings and the address due
 abbrev pub sessionIn : List ℕ → ℕ → Session
 sessionIn words due = record { settings = settingsIn words; due = due }
 
--- an answer is two words: 0 where accepted, else the number; the count answered, or the place
+-- An answer is two words: 0 where accepted, else the number; the count answered, or the place. An accepted answer and a refusal never have the same words: no call
+-- refuses with number 0 (`Demand1`, the lists of numbers).
 abbrev pub answerWords : Answer → List ℕ
 answerWords answer = numberOf answer ∷ valueOf answer ∷ []
 
+-- an opening: its number, and 0
 abbrev pub openedWords : Opened → List ℕ
 openedWords opened = openedNumber opened ∷ 0 ∷ []
+
+-- the address due after it: that of the fresh session, or as it was
+abbrev pub dueAfter : Opened → ℕ → ℕ
+dueAfter (opened.Fresh t) due = t .due
+dueAfter (opened.Refused number) due = due
+
+-- a count of units: 0 and the count, or the number of the refusal and 0
+abbrev pub unitsOf : Count → ℕ
+unitsOf (count.Units n) = n
+unitsOf (count.Refused number) = 0
+
+abbrev pub countWords : Count → List ℕ
+countWords c = countNumber c ∷ unitsOf c ∷ []
+
+-- the words of an opening, and the address due before and after it
+pub record Opens (opened : Opened) (due next : ℕ) (answer : List ℕ) : Type 0 where
+  pub answers : answer ≡ openedWords opened
+  pub moves : next ≡ dueAfter opened due
 
 -- the words of an outcome's answer, and its buffer
 pub record Leaves (o : Outcome) (answer left : List ℕ) : Type 0 where

@@ -1,13 +1,16 @@
 // The C interface: the functions of the static library, declared in include/colwythar.h. A slice is a pointer and then
 // a length; settings, answers and the due address are behind pointers.
+use picture::Opened;
 use picture::Session;
+use settings::Count;
 use unit::Answer;
 ghost use mathlib.Core.Path.{_≡_};
+ghost use Rattle.settings.specs.Units.{countOf, countNumber};
 ghost use Rattle.settings.specs.Words.{settingsIn};
 ghost use Rattle.unit.specs.Reader.{readUnit};
 ghost use Rattle.unit.specs.Writer.{writeFlags};
 ghost use Rattle.picture.specs.Session.{opening, call};
-ghost use Rattle.colwythar.specs.Words.{answerWords, openedWords, sessionIn, Leaves, Moves};
+ghost use Rattle.colwythar.specs.Words.{answerWords, dueAfter, unitsOf, countWords, sessionIn, Leaves, Opens, Moves};
 
 fn put_answer(a: Answer, answer: &mut [u64; 2])
     ensures { λ _. ⌜ now (answer .exit) ≡ answerWords a ⌝ }
@@ -47,14 +50,54 @@ pub extern "C" fn colwythar_write_flags(
     put_answer(a, answer);
 }
 
-// Whether a picture with these settings can be opened: refusals 1 to 9, or 0. A fresh session is the settings and
-// due 0.
+// The address due after an opening, which was `due` before it.
+fn due_after(opened: Opened, due: u64) -> u64
+    ensures { λ r. ⌜ r ≡ dueAfter opened due ⌝ }
+{
+    match opened {
+        Opened::Fresh(session) => session.due as u64,
+        Opened::Refused(_) => due,
+    }
+}
+
+// Opens the session of a picture: refusals 1 to 9, or 0. The session is the settings and the due address, which an
+// accepted opening sets.
 #[no_mangle]
-pub extern "C" fn colwythar_open(settings: &[u32; 8], answer: &mut [u64; 2])
-    ensures { λ _. ⌜ now (answer .exit) ≡ openedWords (opening (settingsIn (now (settings .entry)))) ⌝ }
+pub extern "C" fn colwythar_open(settings: &[u32; 8], due: &mut u64, answer: &mut [u64; 2])
+    ensures { λ _. ⌜ Opens (opening (settingsIn (now (settings .entry)))) (now (due .entry)) (now (due .exit)) (now (answer .exit)) ⌝ }
 {
     let opened = Session::open(settings::from_words(settings));
+    *due = due_after(opened, *due);
     *answer = [opened.number() as u64, 0];
+}
+
+// The number of a count of units: 0, or the refusal's.
+fn number_of(count: Count) -> u64
+    ensures { λ r. ⌜ r ≡ countNumber count ⌝ }
+{
+    match count {
+        Count::Units(_) => 0,
+        Count::Refused(number) => number as u64,
+    }
+}
+
+// Its units, 0 where it is a refusal.
+fn units_of(count: Count) -> u64
+    ensures { λ r. ⌜ r ≡ unitsOf count ⌝ }
+{
+    match count {
+        Count::Units(n) => n as u64,
+        Count::Refused(_) => 0,
+    }
+}
+
+// How many units a picture has: refusals 1 to 9, or the number of units.
+#[no_mangle]
+pub extern "C" fn colwythar_unit_count(settings: &[u32; 8], answer: &mut [u64; 2])
+    ensures { λ _. ⌜ now (answer .exit) ≡ countWords (countOf (settingsIn (now (settings .entry)))) ⌝ }
+{
+    let count = settings::unit_count(settings::from_words(settings));
+    *answer = [number_of(count), units_of(count)];
 }
 
 // The unit call on the session of these settings and the due address: refusals 22, 20, 21 and 11 to 14, or the number

@@ -1,9 +1,7 @@
 -- `colwythar_open` meets its contract.
-use mathlib.Core.Path.{ap, _∙_}
-use mathlib.Core.List.{[], _∷_}
+use denote.Ref.{now}
 use borrow.Author.Needs.{needs}
-use Rattle.picture.specs.Session.{opening}
-use Rattle.colwythar.specs.Words.{openedWords}
+use Rattle.colwythar.proofs.Passing.{opened-to}
 use Rattle.colwythar.proofs.colwythar_open.Statement.{statement}
 use Rattle.colwythar.proofs.colwythar_open.Tie as tie
 
@@ -12,6 +10,9 @@ from-words-requires c κs = search needs
 
 open-requires : tie.Need-open-requires
 open-requires c κs = search needs
+
+due-after-requires : tie.Need-due-after-requires
+due-after-requires c κs = search needs
 
 number-requires : tie.Need-number-requires
 number-requires c κs = search needs
@@ -22,9 +23,13 @@ cast-t6 c = search needs
 returns : tie.Need-returns
 returns c =
     let number = c .before in
-    let opened = number .before in
-    ap (λ n. n ∷ 0 ∷ []) (number .number .ensures) ∙ ap (λ o. openedWords o) (opened .open .ensures ∙ ap opening (opened .before .from-words .ensures))
+    let due = number .before in
+    let known = due .before .before in
+    let set = known .before in
+    let a = set .before .args in
+    opened-to (now (a .settings)) (now (a .due)) (set .from-words .ensures) (known .«open» .ensures) (number .number .ensures) (due .due-after .ensures)
 
 pub colwythar-open-spec : {M : Type 1} → statement M
 colwythar-open-spec =
-    tie.close (tie.spec from-words-requires open-requires number-requires cast-t6 returns)
+    tie.close
+    (tie.spec from-words-requires open-requires due-after-requires number-requires cast-t6 returns)

@@ -1,0 +1,32 @@
+-- `colwythar_unit_count` meets its contract.
+use denote.Ref.{now}
+use borrow.Author.Needs.{needs}
+use Rattle.colwythar.proofs.Passing.{counted-to}
+use Rattle.colwythar.proofs.colwythar_unit_count.Statement.{statement}
+use Rattle.colwythar.proofs.colwythar_unit_count.Tie as tie
+
+from-words-requires : tie.Need-from-words-requires
+from-words-requires c κs = search needs
+
+unit-count-requires : tie.Need-unit-count-requires
+unit-count-requires c κs = search needs
+
+number-of-requires : tie.Need-number-of-requires
+number-of-requires c κs = search needs
+
+units-of-requires : tie.Need-units-of-requires
+units-of-requires c κs = search needs
+
+returns : tie.Need-returns
+returns c =
+    let units = c .before in
+    let number = units .before in
+    let counted = number .before in
+    let set = counted .before in
+    let a = set .before .args in
+    counted-to (now (a .settings)) (set .from-words .ensures) (counted .unit-count .ensures) (number .number-of .ensures) (units .units-of .ensures)
+
+pub colwythar-unit-count-spec : {M : Type 1} → statement M
+colwythar-unit-count-spec =
+    tie.close
+    (tie.spec from-words-requires unit-count-requires number-of-requires units-of-requires returns)
