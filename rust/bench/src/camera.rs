@@ -81,8 +81,8 @@ fn engine(picture: &Picture, buffer: &mut [u8]) {
 }
 
 fn h266(picture: &Picture, buffer: &mut [u8]) {
-    assert_eq!(h266::open(&RECORDER), (0, 0));
     let mut due = 0;
+    assert_eq!(h266::open(&RECORDER, &mut due), (0, 0));
     for unit in picture {
         let answer = h266::unit(&RECORDER, &mut due, unit.address, &unit.flags, black_box(buffer));
         assert_eq!(answer.0, 0, "a legal unit");
@@ -91,8 +91,8 @@ fn h266(picture: &Picture, buffer: &mut [u8]) {
 }
 
 fn tuned(picture: &Picture, buffer: &mut [u8]) {
-    assert_eq!(tuned::open(&RECORDER), (0, 0));
     let mut due = 0;
+    assert_eq!(h266::open(&RECORDER, &mut due), (0, 0));
     for unit in picture {
         let answer = tuned::unit(&RECORDER, &mut due, unit.address, &unit.flags, black_box(buffer));
         assert_eq!(answer.0, 0, "a legal unit");

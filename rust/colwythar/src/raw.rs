@@ -6,7 +6,10 @@
 //! ```
 //! let settings = [64, 4, 8, 3, 32, 32, 64, 64];
 //! let mut rows = [0; 8];
-//! assert_eq!(colwythar::raw::open(&settings), [0, 0]);
+//! let mut due = 7;
+//! assert_eq!(colwythar::raw::open(&settings, &mut due), [0, 0]);
+//! assert_eq!(due, 0);
+//! assert_eq!(colwythar::raw::unit_count(&settings), [0, 1]);
 //! assert_eq!(colwythar::raw::read_unit(&settings, 0, &[0], &mut rows), [0, 1]);
 //! assert_eq!(colwythar::raw::read_unit(&settings, 0, &[0, 0], &mut rows), [13, 1]);
 //! ```
@@ -32,7 +35,8 @@ mod c {
             flags_len: usize,
             answer: *mut u64,
         );
-        pub fn colwythar_open(settings: *const u32, answer: *mut u64);
+        pub fn colwythar_open(settings: *const u32, due: *mut u64, answer: *mut u64);
+        pub fn colwythar_unit_count(settings: *const u32, answer: *mut u64);
         pub fn colwythar_unit(
             settings: *const u32,
             due: *mut u64,
@@ -85,12 +89,21 @@ pub fn write_flags(settings: &[u32; 8], address: u64, rows: &[u8], flags: &mut [
     answer
 }
 
-/// `colwythar_open`.
+/// `colwythar_open`. `due` is set where the opening is accepted, and left as it was where not.
 #[inline]
-pub fn open(settings: &[u32; 8]) -> [u64; 2] {
+pub fn open(settings: &[u32; 8], due: &mut u64) -> [u64; 2] {
+    let mut answer = [0; 2];
+    // SAFETY: each pointer has its fixed size, and the borrows keep them apart.
+    unsafe { c::colwythar_open(settings.as_ptr(), due, answer.as_mut_ptr()) };
+    answer
+}
+
+/// `colwythar_unit_count`.
+#[inline]
+pub fn unit_count(settings: &[u32; 8]) -> [u64; 2] {
     let mut answer = [0; 2];
     // SAFETY: both pointers have their fixed size.
-    unsafe { c::colwythar_open(settings.as_ptr(), answer.as_mut_ptr()) };
+    unsafe { c::colwythar_unit_count(settings.as_ptr(), answer.as_mut_ptr()) };
     answer
 }
 

@@ -22,6 +22,7 @@ use crate::{raw, Refusal, Settings};
 pub struct Session {
     settings: Settings,
     due: u64,
+    count: u64,
 }
 
 impl Session {
@@ -31,8 +32,10 @@ impl Session {
     ///
     /// Numbers 1 to 9.
     pub fn open(settings: Settings) -> Result<Self, Refusal> {
-        Refusal::check(raw::open(&settings.to_array()))?;
-        Ok(Self { settings, due: 0 })
+        let count = settings.unit_count()?;
+        let mut due = 0;
+        Refusal::check(raw::open(&settings.to_array(), &mut due))?;
+        Ok(Self { settings, due, count })
     }
 
     /// Reads the unit that is due, writes its rows and answers how many. The next address is then
@@ -59,11 +62,11 @@ impl Session {
 
     /// How many units the picture has.
     pub fn unit_count(&self) -> u64 {
-        self.settings.unit_count()
+        self.count
     }
 
     /// Have all units been read?
     pub fn is_complete(&self) -> bool {
-        self.due == self.unit_count()
+        self.due == self.count
     }
 }

@@ -1,5 +1,7 @@
 //! The eight settings of a picture.
 
+use crate::{raw, Refusal};
+
 /// The settings, in luma samples except `max_mtt`. Nothing is checked before a call.
 ///
 /// ```
@@ -8,7 +10,7 @@
 /// let settings = Settings::from([128, 4, 8, 3, 64, 64, 1920, 1080]);
 /// assert_eq!(settings.ctu, 128);
 /// assert_eq!(settings.to_array()[7], settings.height);
-/// assert_eq!(settings.unit_count(), 135);
+/// assert_eq!(settings.unit_count(), Ok(135));
 /// ```
 #[derive(Clone, Copy, Debug, PartialEq, Eq, Hash)]
 pub struct Settings {
@@ -38,13 +40,16 @@ impl Settings {
         [ctu, min_cb, min_qt, max_mtt, max_bt, max_tt, width, height]
     }
 
-    /// How many units the picture has; one at the right or bottom edge counts as one. 0 where the
-    /// CTU side is 0.
-    pub fn unit_count(&self) -> u64 {
-        if self.ctu == 0 {
-            return 0;
+    /// How many units the picture has; one at the right or bottom edge counts as one.
+    ///
+    /// # Errors
+    ///
+    /// Numbers 1 to 9.
+    pub fn unit_count(&self) -> Result<u64, Refusal> {
+        match raw::unit_count(&self.to_array()) {
+            [0, count] => Ok(count),
+            [number, place] => Err(Refusal { number, place }),
         }
-        u64::from(self.width.div_ceil(self.ctu)) * u64::from(self.height.div_ceil(self.ctu))
     }
 }
 

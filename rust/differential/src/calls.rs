@@ -5,8 +5,11 @@ use samples::{damage, settings, trees, Rng, Style};
 
 use crate::Engine;
 
-/// More than the rows or flags of any unit need.
+/// As much as the rows or flags of any unit need.
 pub(crate) const ROOM: usize = 8_192;
+
+/// No unit has more flags.
+const MOST_FLAGS: usize = 4_094;
 
 /// A random unit of a picture, its flags, and what both directions take of room.
 struct Unit {
@@ -19,11 +22,12 @@ struct Unit {
 /// One round: a legal unit in both directions, then the same unit damaged in several ways.
 pub fn round(engine: &mut Engine, rng: &mut Rng) {
     let settings = settings::valid(rng);
-    assert_eq!(engine.open(&settings), 0);
+    assert_eq!(engine.open(rng, &settings), 0);
     let address = rng.draw() % unit_count(&settings);
     let style = rng.pick(&Style::ALL);
     let unit = legal(engine, rng, settings, address, style);
     rooms(engine, rng, &unit);
+    drawn_flags(engine, rng, &unit);
     damaged_flags(engine, rng, &unit);
     damaged_rows(engine, rng, &unit);
     lawless_rows(engine, rng, &unit);
@@ -88,6 +92,21 @@ fn rooms(engine: &mut Engine, rng: &mut Rng, unit: &Unit) {
     engine.write(rng, settings, *address, rows, short);
 }
 
+/// A tree from flags drawn at random, which knows no rules: there are more of them than any unit
+/// has, so they run over, and those before the place are the whole tree's.
+fn drawn_flags(engine: &mut Engine, rng: &mut Rng, unit: &Unit) {
+    let Unit { settings, address, .. } = unit;
+    let ones = rng.pick(&[10, 30, 50, 70, 90]);
+    let drawn: Vec<u8> = (0..MOST_FLAGS + 1).map(|_| u8::from(rng.percent(ones))).collect();
+    let over = engine.read(rng, settings, *address, &drawn, ROOM);
+    assert_eq!(over.number, 13, "random flags do not run over: {settings:?} {address}");
+    let flags = &drawn[..over.value as usize];
+    let read = engine.read(rng, settings, *address, flags, ROOM);
+    assert_eq!(read.number, 0, "a whole tree is refused: {settings:?} {address} {flags:?}");
+    let back = engine.write(rng, settings, *address, &read.written, ROOM);
+    assert_eq!(back.written, flags, "the way back gave other flags: {settings:?} {address}");
+}
+
 /// Flags that are changed, cut or extended; also with a short buffer, which is seen later.
 fn damaged_flags(engine: &mut Engine, rng: &mut Rng, unit: &Unit) {
     let mut flags = unit.flags.clone();
@@ -150,7 +169,7 @@ fn broken_settings(engine: &mut Engine, rng: &mut Rng, unit: &Unit) {
         damage::rows(rng, &mut rows);
     }
     let address = rng.pick(&[0, unit.address, u64::MAX]);
-    engine.open(&settings);
+    engine.open(rng, &settings);
     let lent = room(rng, rows.len());
     engine.read(rng, &settings, address, &flags, lent);
     let lent = room(rng, flags.len());

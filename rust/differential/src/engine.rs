@@ -60,12 +60,19 @@ impl Engine {
         call.make(&mut self.tally, rng, (engine, h266, tuned), input)
     }
 
-    /// Opens a session and answers the number.
-    pub fn open(&mut self, settings: &Settings) -> u64 {
-        let [number, place] = raw::open(settings);
-        assert_eq!((number, place), h266::open(settings), "open {settings:?}");
-        assert_eq!((number, place), tuned::open(settings), "open {settings:?}");
+    /// Opens a session, counts its units and answers the number. Where the settings are refused,
+    /// the address due stays as it was. `tuned` has the settings' check of `h266`.
+    pub fn open(&mut self, rng: &mut Rng, settings: &Settings) -> u64 {
+        let before = rng.draw();
+        let [mut first, mut second] = [before; 2];
+        let [number, place] = raw::open(settings, &mut first);
+        assert_eq!((number, place), h266::open(settings, &mut second), "open {settings:?}");
+        assert_eq!(first, second, "the address due after open {settings:?}");
+        assert_eq!(first, if number == 0 { 0 } else { before }, "after open {settings:?}");
         self.tally.count(Entry::Open, number);
+        let [number, count] = raw::unit_count(settings);
+        assert_eq!((number, count), h266::unit_count(settings), "units of {settings:?}");
+        self.tally.count(Entry::Count, number);
         number
     }
 

@@ -13,7 +13,7 @@ const MOST_UNITS: u64 = 40;
 pub fn picture(engine: &mut Engine, rng: &mut Rng) {
     let settings = small_picture(rng);
     let count = unit_count(&settings);
-    assert_eq!(engine.open(&settings), 0);
+    assert_eq!(engine.open(rng, &settings), 0);
     let mut due = 0;
     let mut joined = Vec::new();
     while due < count {
@@ -89,7 +89,7 @@ fn forged(engine: &mut Engine, rng: &mut Rng, settings: &Settings) {
     let broken = settings::invalid(rng, number);
     let mut due = rng.pick(&[0, 1, count, u64::MAX]);
     let call = UnitCall { address: due, ..call };
-    if engine.open(&broken) != 0 {
+    if engine.open(rng, &broken) != 0 {
         assert_eq!(engine.unit(rng, &broken, &mut due, &call).number, 22);
     }
     let mut due = rng.draw() % count;

@@ -5,7 +5,7 @@ use std::fmt;
 /// One above the greatest number of a refusal.
 const NUMBERS: usize = 23;
 
-/// The four functions of the engine.
+/// The five functions of the engine.
 #[derive(Clone, Copy, Debug, PartialEq, Eq)]
 pub enum Entry {
     /// Flags to rows.
@@ -14,20 +14,22 @@ pub enum Entry {
     Write,
     /// Opening a session.
     Open,
+    /// Counting the units of a picture.
+    Count,
     /// A unit of a session.
     Unit,
 }
 
 impl Entry {
-    /// All four.
-    pub const ALL: [Self; 4] = [Self::Read, Self::Write, Self::Open, Self::Unit];
+    /// All five.
+    pub const ALL: [Self; 5] = [Self::Read, Self::Write, Self::Open, Self::Count, Self::Unit];
 
     /// The refusals that this function can give.
     pub fn numbers(self) -> Vec<usize> {
         match self {
             Self::Read => (1..=14).collect(),
             Self::Write => (1..=10).chain(15..=17).collect(),
-            Self::Open => (1..=9).collect(),
+            Self::Open | Self::Count => (1..=9).collect(),
             Self::Unit => (11..=14).chain(20..=22).collect(),
         }
     }
@@ -36,7 +38,7 @@ impl Entry {
 /// Answers by function and number; number 0 counts the accepted calls.
 #[derive(Clone, Debug, Default)]
 pub struct Tally {
-    answers: [[u64; NUMBERS]; 4],
+    answers: [[u64; NUMBERS]; Entry::ALL.len()],
 }
 
 impl Tally {

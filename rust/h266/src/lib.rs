@@ -43,7 +43,7 @@ pub use params::Params;
 pub use read::read_unit;
 pub use refusal::{Answer, Refusal};
 pub use row::Row;
-pub use session::{open, unit};
+pub use session::{open, unit, unit_count};
 pub use split::Split;
 pub use write::write_flags;
 

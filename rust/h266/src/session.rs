@@ -4,10 +4,21 @@ use crate::check::due_root;
 use crate::read::read_tree;
 use crate::{Answer, Params, Refusal, Settings};
 
-/// Opens a session: `(0, 0)`, or a number from 1 to 9. The address due is then 0.
-pub fn open(settings: &Settings) -> Answer {
+/// Opens a session: `(0, 0)`, and the address due is then 0; or a number from 1 to 9.
+pub fn open(settings: &Settings, due: &mut u64) -> Answer {
     match Params::new(settings) {
-        Ok(_) => (0, 0),
+        Ok(_) => {
+            *due = 0;
+            (0, 0)
+        }
+        Err(number) => (number, 0),
+    }
+}
+
+/// How many units the picture has: `(0, units)`, or a number from 1 to 9.
+pub fn unit_count(settings: &Settings) -> Answer {
+    match Params::new(settings) {
+        Ok(params) => (0, params.unit_count()),
         Err(number) => (number, 0),
     }
 }

@@ -24,6 +24,5 @@ mod open;
 mod read;
 mod write;
 
-pub use h266::open;
 pub use read::{read_unit, unit};
 pub use write::write_flags;

@@ -58,9 +58,17 @@ fn openings() {
         (9, Settings { min_qt: 16, max_mtt: 0, height: 72, ..A }),
     ];
     for (number, settings) in cases {
-        assert_eq!(Session::open(settings), Err(Refusal { number, place: 0 }));
+        let refusal = Refusal { number, place: 0 };
+        assert_eq!(Session::open(settings), Err(refusal));
+        assert_eq!(settings.unit_count(), Err(refusal));
+        let mut due = 5;
+        assert_eq!(raw::open(&settings.to_array(), &mut due), [number, 0]);
+        assert_eq!(due, 5);
     }
-    assert_eq!(raw::open(&A.to_array()), [0, 0]);
+    let mut due = 5;
+    assert_eq!(raw::open(&A.to_array(), &mut due), [0, 0]);
+    assert_eq!(due, 0);
+    assert_eq!(A.unit_count(), Ok(1));
 }
 
 #[test]

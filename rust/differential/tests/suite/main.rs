@@ -14,7 +14,7 @@ fn single_units() {
     let tally = &engine.tally;
     println!("{tally}");
     assert!(tally.calls() >= 150_000, "{tally}");
-    for entry in [Entry::Read, Entry::Write, Entry::Open] {
+    for entry in [Entry::Read, Entry::Write, Entry::Open, Entry::Count] {
         tally.assert_each(entry, 300);
     }
     assert!(tally.of(Entry::Read, 0) >= 20_000, "{tally}");

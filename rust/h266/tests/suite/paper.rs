@@ -57,9 +57,12 @@ fn examples_of_the_test_program() {
     rows[..16].rotate_left(8);
     let exchanged = rows;
     assert_eq!(write_flags(&A, 0, &exchanged, &mut [0; 100]), (16, 0));
-    assert_eq!(open(&[64, 4, 8, 3, 32, 32, 68, 64]), (7, 0));
-    assert_eq!(open(&[64, 4, 16, 0, 32, 32, 72, 64]), (9, 0));
-    assert_eq!(open(&[64, 4, 16, 0, 32, 32, 80, 64]), (0, 0));
+    let mut due = 3;
+    assert_eq!(open(&[64, 4, 8, 3, 32, 32, 68, 64], &mut due), (7, 0));
+    assert_eq!(open(&[64, 4, 16, 0, 32, 32, 72, 64], &mut due), (9, 0));
+    assert_eq!(due, 3);
+    assert_eq!(open(&[64, 4, 16, 0, 32, 32, 80, 64], &mut due), (0, 0));
+    assert_eq!(due, 0);
 }
 
 #[test]

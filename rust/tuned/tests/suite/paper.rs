@@ -1,7 +1,7 @@
 //! The checked examples of document 01.
 
 use samples::paper::{examples, Example, A};
-use tuned::{open, read_unit, write_flags};
+use tuned::{read_unit, write_flags};
 
 #[test]
 fn p1_to_p7() {
@@ -37,7 +37,8 @@ fn examples_of_the_test_program() {
     table[..16].rotate_left(8);
     assert_eq!(write_flags(&A, 0, &table, rows), (16, 0));
     assert_eq!(*rows, [0xa5; 100]);
-    assert_eq!(open(&[64, 4, 8, 3, 32, 32, 68, 64]), (7, 0));
-    assert_eq!(open(&[64, 4, 16, 0, 32, 32, 72, 64]), (9, 0));
-    assert_eq!(open(&[64, 4, 16, 0, 32, 32, 80, 64]), (0, 0));
+    let width = |width| [64, 4, 16, 0, 32, 32, width, 64];
+    assert_eq!(read_unit(&[64, 4, 8, 3, 32, 32, 68, 64], 0, &[0], rows), (7, 0));
+    assert_eq!(read_unit(&width(72), 0, &[0], rows), (9, 0));
+    assert_eq!(read_unit(&width(80), 0, &[0], rows), (0, 1));
 }
