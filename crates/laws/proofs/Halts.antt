@@ -33,7 +33,8 @@ stopped : {A S : Type 0} (r : Run A S) (next : S → Run A S) {a p : ℕ} → an
 unfolding goOn before
 stopped {S = S} r next {a} {p} e = go (r .end) refl e
   where
-    go : (end : End S) → r .end ≡ end → goOn (r .given) end next .end ≡ stops a p → (r .end ≡ stops a p) ⊎ ((mid : S) × (r .end ≡ goes mid) × (next mid .end ≡ stops a p))
+    go : (end : End S) → r .end ≡ end → goOn (r .given) end next .end ≡ stops a p
+        → (r .end ≡ stops a p) ⊎ ((mid : S) × (r .end ≡ goes mid) × (next mid .end ≡ stops a p))
     go (goes mid) f e = inr (mid, f, e)
     go (stops b q) f e = inl (f ∙ e)
 
@@ -50,15 +51,18 @@ module _ (k : Kind) (flags : List ℕ) where
     kids : Trees k (children (k .limits) n d)
     begins : Begins flags (flagsFor (rightsOf k n) d ++ flagsOf kids) at a p
 
-  halted-gone : {n : Node} {ns : List Node} {at a p : ℕ} → cornerInside (k .limits) n ≡ false → Halted ns at a p → Halted (n ∷ ns) at a p
+  halted-gone : {n : Node} {ns : List Node} {at a p : ℕ} → cornerInside (k .limits) n ≡ false → Halted ns at a p
+      → Halted (n ∷ ns) at a p
   unfolding flagsOf
   halted-gone out h = record { trees = skip out (h .trees); begins = h .begins }
 
-  halted-here : {n : Node} {ns : List Node} {at a p : ℕ} → cornerInside (k .limits) n ≡ true → HaltedIn n at a p → Trees k ns → Halted (n ∷ ns) at a p
+  halted-here : {n : Node} {ns : List Node} {at a p : ℕ} → cornerInside (k .limits) n ≡ true → HaltedIn n at a p
+      → Trees k ns → Halted (n ∷ ns) at a p
   unfolding flagsOf
   halted-here here h rest = record { trees = node (h .d) here (h .ok) (h .kids) rest; begins = rw append-assoc at (begins-longer flags (flagsOf rest) (h .begins)) }
 
-  halted-later : {n : Node} {ns : List Node} {at mid a p : ℕ} {rows : List Row} → cornerInside (k .limits) n ≡ true → Sprout k flags n at rows mid → Halted ns mid a p → Halted (n ∷ ns) at a p
+  halted-later : {n : Node} {ns : List Node} {at mid a p : ℕ} {rows : List Row} → cornerInside (k .limits) n ≡ true
+      → Sprout k flags n at rows mid → Halted ns mid a p → Halted (n ∷ ns) at a p
   unfolding flagsOf
   halted-later here s h = record { trees = node (s .d) here (s .ok) (s .kids) (h .trees); begins = rw append-assoc at (begins-later flags (s .reads) (h .begins)) }
 
@@ -81,14 +85,16 @@ module _ (k : Kind) (flags : List ℕ) where
             let s = sound n q here at (x .0) (x .1) in
             halted-later here s (rest (x .0) a p (reads-within (s .reads) l) (x .2))
 
-        begin : (b : Bool) → cornerInside (k .limits) n ≡ b → Stops ns → overAll (k .limits) step (n ∷ ns) at .end ≡ stops a p → Halted (n ∷ ns) at a p
+        begin : (b : Bool) → cornerInside (k .limits) n ≡ b → Stops ns
+            → overAll (k .limits) step (n ∷ ns) at .end ≡ stops a p → Halted (n ∷ ns) at a p
         begin true here rest e = there here rest (stopped (step n at) (λ t. overAll (k .limits) step ns t) (rw (over-here k step n ns at here) at e))
         begin false out rest e = halted-gone out (rest at a p l (rw (over-gone k step n ns at out) at e))
 
   module _ {P : Node → Type 0} (opens : Open k P) (shape : (n : Node) → P n → Shape n) where
     choice-halted : (deep : ℕ) (n : Node) → Low opens shape (suc deep) n → cornerInside (k .limits) n ≡ true
         → ((ns : List Node) → Every (Low opens shape deep) ns → (at a p : ℕ) → at ≤ length flags → overAll (k .limits) (walk deep k flags) ns at .end ≡ stops a p → Halted ns at a p)
-        → (at a p : ℕ) → at ≤ length flags → (c : Choice) → decide (rightsOf k n) flags at ≡ c → enter k n (walk deep k flags) c .end ≡ stops a p → HaltedIn n at a p
+        → (at a p : ℕ) → at ≤ length flags → (c : Choice) → decide (rightsOf k n) flags at ≡ c
+        → enter k n (walk deep k flags) c .end ≡ stops a p → HaltedIn n at a p
     unfolding enter before
     choice-halted deep n q here below at a p l (Refused b r) i e =
         let u : b ≡ a = cc in
@@ -101,7 +107,8 @@ module _ (k : Kind) (flags : List ℕ) where
         let h = below (children (k .limits) n d) (low-kids opens shape deep n q d (s .ok)) m a p (reads-within (s .reads) l) e in
         record { d = d; ok = s .ok; kids = h .trees; begins = begins-later flags (s .reads) (h .begins) }
 
-    node-halted : (deep : ℕ) (n : Node) → Low opens shape deep n → cornerInside (k .limits) n ≡ true → (at a p : ℕ) → at ≤ length flags → walk deep k flags n at .end ≡ stops a p → HaltedIn n at a p
+    node-halted : (deep : ℕ) (n : Node) → Low opens shape deep n → cornerInside (k .limits) n ≡ true → (at a p : ℕ)
+        → at ≤ length flags → walk deep k flags n at .end ≡ stops a p → HaltedIn n at a p
     unfolding walk
     node-halted zero n q here at a p l e = low-some opens shape q
     node-halted (suc deep) n q here at a p l e =
@@ -110,5 +117,6 @@ module _ (k : Kind) (flags : List ℕ) where
         at a p l (decide (rightsOf k n) flags at) refl e
 
     -- a walk over good nodes, so many levels deep, that stops
-    pub walk-halted : (deep : ℕ) {ns : List Node} → Every (Low opens shape deep) ns → (at a p : ℕ) → at ≤ length flags → overAll (k .limits) (walk deep k flags) ns at .end ≡ stops a p → Halted ns at a p
+    pub walk-halted : (deep : ℕ) {ns : List Node} → Every (Low opens shape deep) ns → (at a p : ℕ) → at ≤ length flags
+        → overAll (k .limits) (walk deep k flags) ns at .end ≡ stops a p → Halted ns at a p
     walk-halted deep = all-halted (Low opens shape deep) (walk deep k flags) (λ ns. some-trees opens shape deep) (λ n q. node-sound k flags P opens deep n (q .0)) (node-halted deep)

@@ -1,4 +1,5 @@
--- Where the flags of a decision stop: at their end, 11, or at a byte above 1, 12; and what was read up to there begins the flags of an allowed decision.
+-- Where the flags of a decision stop: at their end, 11, or at a byte above 1, 12; and what was read up to there begins
+-- the flags of an allowed decision.
 use Prim.Native.Nat.{ℕ, _+_, _≤_, _<_}
 use mathlib.Core.Path.{_≡_, refl, ap, _∙_}
 use mathlib.Core.Bool.{Bool, true, false, cond, _||_}
@@ -16,7 +17,7 @@ use Rattle.tree.specs.declared.Flag.{Flag}
 use Rattle.tree.specs.declared.Flag.the-variants.{Value, Bad}
 use Rattle.tree.specs.declared.Choice.the-variants.{Refused}
 use Rattle.tree.specs.Splits.{pick, bit, Rights, allows}
-use Rattle.tree.specs.Flags.{cutOpen, splitThere, splitAbsent, quadThere, quadAbsent, verticalThere, verticalAbsent, binaryThere, binaryAbsent, flagAt, afterBinary, afterVertical, afterQuad, afterSplit, decide, flagByte, flagsFor}
+use Rattle.tree.specs.Flags.{cutOpen, splitThere, splitAbsent, quadThere, quadAbsent, verticalThere, verticalAbsent, binaryThere, binaryAbsent, flagAt, afterBinary, afterVertical, afterQuad, afterSplit, decide, flagByte, cutFlags, flagsFor}
 use Rattle.laws.proofs.Tests.{never}
 use Rattle.laws.proofs.Bytes.{Reads, nothing, reads-join, reads-within}
 use Rattle.laws.proofs.Flags.{Step, step-sound}
@@ -36,10 +37,12 @@ module _ (flags : List ℕ) where
     pub reads : Reads flags at front place
     pub fault : NoFlag number place
 
-  pub begins-longer : {whole : List ℕ} {at a p : ℕ} (rest : List ℕ) → Begins whole at a p → Begins (whole ++ rest) at a p
+  pub begins-longer : {whole : List ℕ} {at a p : ℕ} (rest : List ℕ) → Begins whole at a p
+      → Begins (whole ++ rest) at a p
   begins-longer rest b = record { front = b .front; flag = b .flag; more = b .more ++ rest; is = rw (b .is) (append-assoc (b .front) (b .flag ∷ b .more) rest); reads = b .reads; fault = b .fault }
 
-  pub begins-later : {first whole : List ℕ} {at mid a p : ℕ} → Reads flags at first mid → Begins whole mid a p → Begins (first ++ whole) at a p
+  pub begins-later : {first whole : List ℕ} {at mid a p : ℕ} → Reads flags at first mid → Begins whole mid a p
+      → Begins (first ++ whole) at a p
   begins-later {first} r b = record { front = first ++ b .front; flag = b .flag; more = b .more; is = rw (b .is, append-assoc); reads = reads-join r (b .reads); fault = b .fault }
 
   begins-now : {flag at a p : ℕ} {more : List ℕ} → at ≡ p → NoFlag a p → Begins (flag ∷ more) at a p
@@ -47,7 +50,8 @@ module _ (flags : List ℕ) where
 
   -- ---- one flag
 
-  there-bad : (at : ℕ) (b c v : Bool) {a p : ℕ} → ltb at (length flags) ≡ b → leb (getD flags at 0) 1 ≡ c → at ≤ length flags
+  there-bad : (at : ℕ) (b c v : Bool) {a p : ℕ} → ltb at (length flags) ≡ b → leb (getD flags at 0) 1 ≡ c
+      → at ≤ length flags
       → cond b (cond c (Value v (at + 1)) (Bad 12 at)) (Bad 11 (length flags)) ≡ Bad a p → (at ≡ p) × NoFlag a p
   there-bad at true true v i j l h = never (cc)
   there-bad at true false v {a} {p} i j l h =
@@ -60,7 +64,8 @@ module _ (flags : List ℕ) where
       let g = ltb-false at (length flags) i in
       (omega arith, rw (← e, ← f) at-end)
 
-  flag-bad : (there absent : Bool) {at a p : ℕ} → at ≤ length flags → flagAt there absent flags at ≡ Bad a p → (there ≡ true) × (at ≡ p) × NoFlag a p
+  flag-bad : (there absent : Bool) {at a p : ℕ} → at ≤ length flags → flagAt there absent flags at ≡ Bad a p
+      → (there ≡ true) × (at ≡ p) × NoFlag a p
   unfolding flagAt
   flag-bad true absent {at} l h =
       let b = there-bad at (ltb at (length flags)) (leb (getD flags at 0) 1) (eqb (getD flags at 0) 1) refl refl l h in
@@ -80,14 +85,16 @@ module _ (flags : List ℕ) where
       pub ok : allows r d ≡ true
       pub begins : Begins (flagsFor r d) at a p
 
-    same-bad : {a p : ℕ} {k q at : ℕ} {there : Bool} → (there ≡ true) × (at ≡ q) × NoFlag k q → Refused k q ≡ Refused a p → (there ≡ true) × (at ≡ p) × NoFlag a p
+    same-bad : {a p : ℕ} {k q at : ℕ} {there : Bool} → (there ≡ true) × (at ≡ q) × NoFlag k q
+        → Refused k q ≡ Refused a p → (there ≡ true) × (at ≡ p) × NoFlag a p
     same-bad {a} {p} {k} {q} b h =
         let e : k ≡ a = cc in
         let f : q ≡ p = cc in
         (b .0, b .1 ∙ f, rw (e, f) at (b .2))
 
     -- the cut of a direction of which one is open
-    some-cut : (e : Direction) {at a p : ℕ} → cutOpen r e ≡ true → ((binary : Bool) → Begins (flagByte (splitThere r) true ++ (flagByte (quadThere r) false ++ (flagByte (verticalThere r) (pick e false true) ++ flagByte (binaryThere r e) binary))) at a p) → Halts at a p
+    some-cut : (e : Direction) {at a p : ℕ} → cutOpen r e ≡ true
+        → ((binary : Bool) → Begins (cutFlags r e binary) at a p) → Halts at a p
     unfolding flagsFor
     some-cut e {at} {a} {p} o begins = go (r .binary e) (r .ternary e) refl refl o
       where
@@ -96,8 +103,10 @@ module _ (flags : List ℕ) where
         go false true i j h = record { d = Ternary e; ok = j; begins = begins false }
         go false false i j h = never (cc)
 
-    halt-binary : (e : Direction) (f : Flag) {at x y z a p : ℕ} → z ≤ length flags → Step flags (splitThere r) (splitAbsent r) true at x → Step flags (quadThere r) (quadAbsent r) false x y
-        → Step flags (verticalThere r) (verticalAbsent r) (pick e false true) y z → flagAt (binaryThere r e) (binaryAbsent r e) flags z ≡ f → afterBinary e f ≡ Refused a p → Halts at a p
+    halt-binary : (e : Direction) (f : Flag) {at x y z a p : ℕ} → z ≤ length flags
+        → Step flags (splitThere r) (splitAbsent r) true at x → Step flags (quadThere r) (quadAbsent r) false x y
+        → Step flags (verticalThere r) (verticalAbsent r) (pick e false true) y z
+        → flagAt (binaryThere r e) (binaryAbsent r e) flags z ≡ f → afterBinary e f ≡ Refused a p → Halts at a p
     unfolding afterBinary flagsFor
     halt-binary e (Bad k q) l s t v i h =
         let b = same-bad (flag-bad (binaryThere r e) (binaryAbsent r e) l i) h in
@@ -109,7 +118,8 @@ module _ (flags : List ℕ) where
     halt-binary e (Value true m) l s t v i h = never (cc)
     halt-binary e (Value false m) l s t v i h = never (cc)
 
-    halt-vertical : (f : Flag) {at x y a p : ℕ} → y ≤ length flags → Step flags (splitThere r) (splitAbsent r) true at x → Step flags (quadThere r) (quadAbsent r) false x y
+    halt-vertical : (f : Flag) {at x y a p : ℕ} → y ≤ length flags
+        → Step flags (splitThere r) (splitAbsent r) true at x → Step flags (quadThere r) (quadAbsent r) false x y
         → flagAt (verticalThere r) (verticalAbsent r) flags y ≡ f → afterVertical r flags f ≡ Refused a p → Halts at a p
     unfolding afterVertical
     halt-vertical (Bad k q) l s t i h =
@@ -123,7 +133,8 @@ module _ (flags : List ℕ) where
         let v = step-sound flags (verticalThere r) (verticalAbsent r) i in
         halt-binary Horizontal _ (reads-within (v .reads) l) s t v refl h
 
-    halt-quad : (f : Flag) {at x a p : ℕ} → x ≤ length flags → Step flags (splitThere r) (splitAbsent r) true at x → flagAt (quadThere r) (quadAbsent r) flags x ≡ f → afterQuad r flags f ≡ Refused a p → Halts at a p
+    halt-quad : (f : Flag) {at x a p : ℕ} → x ≤ length flags → Step flags (splitThere r) (splitAbsent r) true at x
+        → flagAt (quadThere r) (quadAbsent r) flags x ≡ f → afterQuad r flags f ≡ Refused a p → Halts at a p
     unfolding afterQuad flagsFor
     halt-quad (Bad k q) l s i h =
         let b = same-bad (flag-bad (quadThere r) (quadAbsent r) l i) h in
@@ -133,7 +144,8 @@ module _ (flags : List ℕ) where
         let t = step-sound flags (quadThere r) (quadAbsent r) i in
         halt-vertical _ (reads-within (t .reads) l) s t refl h
 
-    halt-split : (f : Flag) {at a p : ℕ} → at ≤ length flags → flagAt (splitThere r) (splitAbsent r) flags at ≡ f → afterSplit r flags f ≡ Refused a p → Halts at a p
+    halt-split : (f : Flag) {at a p : ℕ} → at ≤ length flags → flagAt (splitThere r) (splitAbsent r) flags at ≡ f
+        → afterSplit r flags f ≡ Refused a p → Halts at a p
     unfolding afterSplit flagsFor
     halt-split (Bad k q) l i h =
         let b = same-bad (flag-bad (splitThere r) (splitAbsent r) l i) h in

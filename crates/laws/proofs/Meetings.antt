@@ -1,4 +1,5 @@
--- Bytes beside the flags of coding trees: how far they agree with those of a tree, and that this is the same for every tree that they meet so.
+-- Bytes beside the flags of coding trees: how far they agree with those of a tree, and that this is the same for every
+-- tree that they meet so.
 use Prim.Native.Nat.{ℕ, suc, _+_, _≤_, _<_}
 use mathlib.Core.Path.{_≡_, refl, sym, ap, subst, _∙_}
 use mathlib.Core.Bool.{Bool, true, false}
@@ -30,21 +31,25 @@ flag-bit true true = every-more {a = 1} (omega arith) every-none
 flag-bit true false = every-more {a = 0} (omega arith) every-none
 flag-bit false v = every-none
 
+cut-bits : (r : Rights) (d : Direction) (v : Bool) → Every Flag01 (cutFlags r d v)
+cut-bits r d v =
+    every-join (flag-bit (splitThere r) true)
+    (every-join (flag-bit (quadThere r) false)
+    (every-join (flag-bit (verticalThere r) (pick d false true)) (flag-bit (binaryThere r d) v)))
+
 decision-bits : (r : Rights) (d : Decision) → Every Flag01 (flagsFor r d)
 unfolding flagsFor
 decision-bits r Leaf = flag-bit (splitThere r) false
 decision-bits r Quad = every-join (flag-bit (splitThere r) true) (flag-bit (quadThere r) true)
-decision-bits r (Binary d) = cut-bits d true
-  where
-    cut-bits : (d : Direction) (v : Bool) → Every Flag01 (cutFlags r d v)
-    cut-bits d v = every-join (flag-bit (splitThere r) true) (every-join (flag-bit (quadThere r) false) (every-join (flag-bit (verticalThere r) (pick d false true)) (flag-bit (binaryThere r d) v)))
-decision-bits r (Ternary d) = every-join (flag-bit (splitThere r) true) (every-join (flag-bit (quadThere r) false) (every-join (flag-bit (verticalThere r) (pick d false true)) (flag-bit (binaryThere r d) false)))
+decision-bits r (Binary d) = cut-bits r d true
+decision-bits r (Ternary d) = cut-bits r d false
 
 flags-bits : {k : Kind} {ns : List Node} (t : Trees k ns) → Every Flag01 (flagsOf t)
 unfolding flagsOf
 flags-bits none = every-none
 flags-bits (skip out rest) = flags-bits rest
-flags-bits {k} (node {n = n} d here ok kids rest) = every-join (decision-bits (rightsOf k n) d) (every-join (flags-bits kids) (flags-bits rest))
+flags-bits {k} (node {n = n} d here ok kids rest) =
+    every-join (decision-bits (rightsOf k n) d) (every-join (flags-bits kids) (flags-bits rest))
 
 bit-in : (front : List ℕ) (b : ℕ) (more : List ℕ) → Every Flag01 (front ++ (b ∷ more)) → b ≤ 1
 bit-in [] b more (every-more p ps) = p
@@ -78,8 +83,10 @@ meets (b ∷ rest) (f ∷ others) = 12
 -- two beginnings of the same bytes: the same, or one goes on where the other ends
 data Beside (front rest front′ rest′ : List ℕ) : Type 0 where
   same : front ≡ front′ → rest ≡ rest′ → Beside front rest front′ rest′
-  shorter : (b : ℕ) (more after : List ℕ) → front′ ≡ front ++ (b ∷ more) → rest ≡ b ∷ after → Beside front rest front′ rest′
-  longer : (b : ℕ) (more after : List ℕ) → front ≡ front′ ++ (b ∷ more) → rest′ ≡ b ∷ after → Beside front rest front′ rest′
+  shorter : (b : ℕ) (more after : List ℕ) → front′ ≡ front ++ (b ∷ more) → rest ≡ b ∷ after
+      → Beside front rest front′ rest′
+  longer : (b : ℕ) (more after : List ℕ) → front ≡ front′ ++ (b ∷ more) → rest′ ≡ b ∷ after
+      → Beside front rest front′ rest′
 
 beside : (front rest front′ rest′ : List ℕ) → front ++ rest ≡ front′ ++ rest′ → Beside front rest front′ rest′
 beside [] rest [] rest′ e = same refl e
@@ -97,7 +104,8 @@ beside (b ∷ front) rest (c ∷ front′) rest′ e = go (beside front rest fro
 
 module _ {k : Kind} {ns : List Node} where
   -- where a tree's flags end, no other tree's go on
-  ends-once : (t u : Trees k ns) (front : List ℕ) (c : ℕ) (more : List ℕ) → flagsOf t ≡ front → flagsOf u ≡ front ++ (c ∷ more) → ⊥
+  ends-once : (t u : Trees k ns) (front : List ℕ) (c : ℕ) (more : List ℕ) → flagsOf t ≡ front
+      → flagsOf u ≡ front ++ (c ∷ more) → ⊥
   ends-once t u front c more e f =
       let whole = front ++ (c ∷ more) in
       let r = reads-from [] front (c ∷ more) 0 refl in
@@ -107,11 +115,13 @@ module _ {k : Kind} {ns : List Node} where
       omega arith
 
   -- where bytes part from a tree, no tree's flags go on as they do
-  parts-once : (t u : Trees k ns) (front : List ℕ) (b : ℕ) (rest more others : List ℕ) → flagsOf t ≡ front ++ others → Parted (b ∷ rest) others → flagsOf u ≡ front ++ (b ∷ more) → ⊥
+  parts-once : (t u : Trees k ns) (front : List ℕ) (b : ℕ) (rest more others : List ℕ) → flagsOf t ≡ front ++ others
+      → Parted (b ∷ rest) others → flagsOf u ≡ front ++ (b ∷ more) → ⊥
   parts-once t u front b rest more [] e p f = ends-once t u front b more (e ∙ append-nil front) f
   parts-once t u front b rest more (x ∷ others) e p f = let h = bit-in front b more (subst (Every Flag01) f (flags-bits u)) in omega arith
 
-  same-meets : (t u : Trees k ns) (front rest others others′ : List ℕ) → flagsOf t ≡ front ++ others → flagsOf u ≡ front ++ others′ → meets rest others ≡ meets rest others′
+  same-meets : (t u : Trees k ns) (front rest others others′ : List ℕ) → flagsOf t ≡ front ++ others
+      → flagsOf u ≡ front ++ others′ → meets rest others ≡ meets rest others′
   same-meets t u front [] [] [] e f = refl
   same-meets t u front [] [] (y ∷ others′) e f = absurd (ends-once t u front y others′ (e ∙ append-nil front) f)
   same-meets t u front [] (x ∷ others) [] e f = absurd (ends-once u t front x others (f ∙ append-nil front) e)
@@ -125,7 +135,8 @@ module _ {k : Kind} {ns : List Node} where
       → (meets rest others ≡ meets rest′ others′) × (length (x .front) ≡ length (y .front))
   meets-once {bytes} {rest} {others} {rest′} {others′} x y = go (beside (x .front) rest (y .front) rest′ (sym (x .bytes-are) ∙ y .bytes-are))
     where
-      go : Beside (x .front) rest (y .front) rest′ → (meets rest others ≡ meets rest′ others′) × (length (x .front) ≡ length (y .front))
+      go : Beside (x .front) rest (y .front) rest′
+          → (meets rest others ≡ meets rest′ others′) × (length (x .front) ≡ length (y .front))
       go (same p q) = (ap (λ r. meets r others) q ∙ same-meets (x .trees) (y .trees) (x .front) rest′ others others′ (x .flags-are) (y .flags-are ∙ ap (λ f. f ++ others′) (sym p)), ap length p)
       go (shorter b more after p q) =
           absurd

@@ -1,4 +1,5 @@
--- Every node that a walk can reach from a good root is good, and its corner lies in the picture; so it has an open split where it is out.
+-- Every node that a walk can reach from a good root is good, and its corner lies in the picture; so it has an open split
+-- where it is out.
 use mathlib.Core.Path.{_≡_, subst, sym}
 use mathlib.Core.Bool.{true, false}
 use mathlib.Core.List.{List, [], _∷_, List·Memᴰ, List·Memᴰ·cases-cons}

@@ -108,7 +108,8 @@ module _ (t : Session) (c : Call) where
           let y : p ≡ place = cc in
           same-fault (CallFault t c) f x y
 
-      read : UnitDue t → c .address ≡ t .due → {k p : ℕ} → ReadFault (t .settings) (t .due) (c .flags) (length (c .buffer)) k p → CallFault t c k p
+      read : UnitDue t → c .address ≡ t .due → {k p : ℕ}
+          → ReadFault (t .settings) (t .due) (c .flags) (length (c .buffer)) k p → CallFault t c k p
       read u a (read-unit f) = let x = unit-refused (t .settings) (t .due) f in let y = there u in let z = x .0 in let l = x .1 in absurd (omega arith)
       read u a (read-flags h f) = call-flags u a f
       read u a (read-room h tree f l) = call-room u a tree f l

@@ -60,7 +60,8 @@ module _ (s : Settings) (a : ℕ) (h : unitRefusal s a ≡ 0) (t : UnitTree s a)
       omega arith
 
 module _ (s : Settings) (a : ℕ) where
-  rows : (flags buffer : List ℕ) (count : ℕ) → readUnit s a flags buffer .answer ≡ Accepted count → (count ≤ 1024) × (length flags ≤ 4094)
+  rows : (flags buffer : List ℕ) (count : ℕ) → readUnit s a flags buffer .answer ≡ Accepted count
+      → (count ≤ 1024) × (length flags ≤ 4094)
   rows flags buffer count e =
       let h = read-there s a flags buffer count e in
       let t = reads-exactly s a h .only flags buffer count e in
@@ -70,7 +71,8 @@ module _ (s : Settings) (a : ℕ) where
       let l = ap length (t .1) in
       omega arith
 
-  flags : (bytes : List ℕ) → Bytes bytes → (buffer : List ℕ) (count : ℕ) → writeFlags s a bytes buffer .answer ≡ Accepted count → (count ≤ 4094) × (length bytes ≤ 8192)
+  flags : (bytes : List ℕ) → Bytes bytes → (buffer : List ℕ) (count : ℕ)
+      → writeFlags s a bytes buffer .answer ≡ Accepted count → (count ≤ 4094) × (length bytes ≤ 8192)
   flags bytes small buffer count e =
       let h = turned-there s a bytes buffer count e in
       let t = turns-exactly s a h .only bytes small buffer count e in
@@ -81,12 +83,14 @@ module _ (s : Settings) (a : ℕ) where
       let n = table-length (rowsOf (t .0)) in
       omega arith
 
-  few-rows : {flags : List ℕ} {room number place : ℕ} → ReadFault s a flags room number place → number ≡ 14 → room < 8192
+  few-rows : {flags : List ℕ} {room number place : ℕ} → ReadFault s a flags room number place → number ≡ 14
+      → room < 8192
   few-rows (read-unit f) e = let m = unit-most s a f in absurd (omega arith)
   few-rows (read-flags h f) e = let m = fault-range f in absurd (omega arith)
   few-rows (read-room h t f l) e = let m = rows-most s a h t in omega arith
 
-  few-flags : {bytes : List ℕ} {room number place : ℕ} → TurnFault s a bytes room number place → number ≡ 17 → room < 4094
+  few-flags : {bytes : List ℕ} {room number place : ℕ} → TurnFault s a bytes room number place → number ≡ 17
+      → room < 4094
   few-flags (turn-unit f) e = let m = unit-most s a f in absurd (omega arith)
   few-flags (turn-cut h c) e = absurd (omega arith)
   few-flags (turn-none h w n) e = absurd (omega arith)

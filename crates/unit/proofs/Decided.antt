@@ -39,7 +39,8 @@ module _ {Lent : Type 0} (Fault : ℕ → ℕ → Type 0) (numbers : List ℕ) {
   answers (Accepted count) e = tt
   answers (Refused number place) e = listed number place (sound number place e)
 
-  free : (a : Answer) → answer ≡ a → ((number place : ℕ) → ¬ Fault number place) → (count : ℕ) × (answer ≡ Accepted count)
+  free : (a : Answer) → answer ≡ a → ((number place : ℕ) → ¬ Fault number place)
+      → (count : ℕ) × (answer ≡ Accepted count)
   free (Accepted count) e none = (count, e)
   free (Refused number place) e none = absurd (none number place (sound number place e))
 
@@ -52,11 +53,13 @@ module _ {Lent : Type 0} (Fault : ℕ → ℕ → Type 0) (numbers : List ℕ) {
   }
 
 -- an outcome that is a refusal: its answer, and the buffer as it was
-pub is-refused : {o : Outcome} {number place : ℕ} {buffer : List ℕ} → o ≡ refused number place buffer → (o .answer ≡ Refused number place) × (o .buffer ≡ buffer)
+pub is-refused : {o : Outcome} {number place : ℕ} {buffer : List ℕ} → o ≡ refused number place buffer
+    → (o .answer ≡ Refused number place) × (o .buffer ≡ buffer)
 is-refused e = (ap (λ o. o .answer) e, ap (λ o. o .buffer) e)
 
 -- the fault of a refusal is that of the same refusal
-pub same-fault : (Fault : ℕ → ℕ → Type 0) {a p number place : ℕ} → Fault a p → a ≡ number → p ≡ place → Fault number place
+pub same-fault : (Fault : ℕ → ℕ → Type 0) {a p number place : ℕ} → Fault a p → a ≡ number → p ≡ place
+    → Fault number place
 same-fault Fault {a} {p} {number} {place} f e g = subst (λ x. Fault x place) e (subst (Fault a) g f)
 
 module _ (s : Settings) (a : ℕ) (flags buffer : List ℕ) where

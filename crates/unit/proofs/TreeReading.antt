@@ -1,4 +1,5 @@
--- The reading of a whole tree, where the reading of a node is its coding tree: flags are those of a tree, or they are refused for a fault of theirs.
+-- The reading of a whole tree, where the reading of a node is its coding tree: flags are those of a tree, or they are
+-- refused for a fault of theirs.
 use Prim.Native.Nat.{ℕ, suc, _<_}
 use mathlib.Core.Path.{_≡_, refl, subst}
 use mathlib.Core.Bool.{Bool, true, false}
@@ -25,7 +26,9 @@ use Rattle.unit.specs.Faults.{FlagFault, end-early, no-flag, run-over}
 
 -- flags that are refused for a fault
 abbrev pub FlagsRefused : Kind → Node → List ℕ → Type 0
-FlagsRefused k n flags = (number place : ℕ) × FlagFault k n flags number place × ((buffer : List ℕ) → readTree k n flags buffer ≡ refused number place buffer)
+FlagsRefused k n flags =
+    (number place : ℕ) × FlagFault k n flags number place
+    × ((buffer : List ℕ) → readTree k n flags buffer ≡ refused number place buffer)
 
 -- flags of a tree, or refused
 abbrev pub FlagsRead : Kind → Node → List ℕ → Type 0
@@ -33,7 +36,8 @@ FlagsRead k n flags = ((t : Tree k n) × (flagsOf t ≡ flags)) ⊎ FlagsRefused
 
 module _ {k : Kind} {n : Node} {flags : List ℕ} (t : Tree k n) where
   -- where the reading stopped within a tree's flags
-  halt-fault : {a p : ℕ} (front : List ℕ) (flag : ℕ) (more : List ℕ) → flagsOf t ≡ front ++ (flag ∷ more) → Reads flags 0 front p → NoFlag flags a p → FlagFault k n flags a p
+  halt-fault : {a p : ℕ} (front : List ℕ) (flag : ℕ) (more : List ℕ) → flagsOf t ≡ front ++ (flag ∷ more)
+      → Reads flags 0 front p → NoFlag flags a p → FlagFault k n flags a p
   halt-fault front flag more is r at-end = end-early t flag more (subst (λ f. flagsOf t ≡ f ++ (flag ∷ more)) (reads-end r (omega arith)) is)
   halt-fault front flag more is r (above-1 {at = at} l h) =
       let e = reads-length r in
@@ -54,7 +58,8 @@ module _ {k : Kind} {n : Node} (r : ReadingIsTree k n) where
       rw (r .exactly (flagsOf t) 0 (rowsOf t) (length (flagsOf t)) .1 (record { trees = t; reads = reads-all (flagsOf t); same = refl }))
       (rw (le-ltb (length (flagsOf t)) (length (flagsOf t)) (omega arith)))
 
-  pub tree-read : (t : Tree k n) (buffer : List ℕ) → readTree k n (flagsOf t) buffer ≡ deliver 14 (length (rowsOf t)) (tableBytes (rowsOf t)) buffer
+  pub tree-read : (t : Tree k n) (buffer : List ℕ)
+      → readTree k n (flagsOf t) buffer ≡ deliver 14 (length (rowsOf t)) (tableBytes (rowsOf t)) buffer
   unfolding readTree finishEnd
   tree-read t buffer = rw (tree-rows t)
 
@@ -62,10 +67,12 @@ module _ {k : Kind} {n : Node} (r : ReadingIsTree k n) where
   unfolding readTree rowsFrom finishEnd noneAfter
   read-or-refused flags = go (readNode k flags n 0 .end) refl
     where
-      past : (to : ℕ) → readNode k flags n 0 .end ≡ goes to → (b : Bool) → ltb to (length flags) ≡ b → FlagsRead k n flags
+      past : (to : ℕ) → readNode k flags n 0 .end ≡ goes to → (b : Bool) → ltb to (length flags) ≡ b
+          → FlagsRead k n flags
       past to e b l = end b l (r .exactly flags 0 (readNode k flags n 0 .given) to .0 (λ i. record { given = readNode k flags n 0 .given; end = e i }))
         where
-          end : (b : Bool) → ltb to (length flags) ≡ b → Grown k flags (n ∷ []) 0 (readNode k flags n 0 .given) to → FlagsRead k n flags
+          end : (b : Bool) → ltb to (length flags) ≡ b → Grown k flags (n ∷ []) 0 (readNode k flags n 0 .given) to
+              → FlagsRead k n flags
           end true l g = inr (13, to, over-fault (g .trees) (g .reads) (ltb-true to (length flags) l), λ buffer. rw e (rw l))
           end false l g = inl (g .trees, reads-end (g .reads) (ltb-false to (length flags) l))
 

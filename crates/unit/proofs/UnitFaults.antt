@@ -73,7 +73,8 @@ module _ (s : Settings) where
     unfolding unitRefusal
     unit-fault number e l = go (eqb (settingsRefusal s) 0) (leb (unitCount s) a) refl refl e
       where
-        go : (b c : Bool) → eqb (settingsRefusal s) 0 ≡ b → leb (unitCount s) a ≡ c → cond b (cond c 10 0) (settingsRefusal s) ≡ number → UnitFault s a number
+        go : (b c : Bool) → eqb (settingsRefusal s) 0 ≡ b → leb (unitCount s) a ≡ c
+            → cond b (cond c 10 0) (settingsRefusal s) ≡ number → UnitFault s a number
         go true true i j e = subst (UnitFault s a) e (no-unit (eqb-true (settingsRefusal s) 0 i) (leb-true (unitCount s) a j))
         go true false i j e = absurd (omega arith)
         go false c i j e = bad-settings (settings-fault number e l)

@@ -1,4 +1,5 @@
--- What the header and docs/REFUSALS.md promise of every unit: at most 1,024 rows and 4,094 flags, and buffers of so many are never too short.
+-- What the header and docs/REFUSALS.md promise of every unit: at most 1,024 rows and 4,094 flags, and buffers of so many
+-- are never too short.
 use Prim.Native.Nat.{ℕ, _≤_}
 use mathlib.Core.Path.{_≡_}
 use mathlib.Core.List.{List}
@@ -10,10 +11,16 @@ use Rattle.unit.specs.Writer.{writeFlags}
 use Rattle.unit.specs.Exactly.{Bytes}
 
 pub record Bounded (s : Settings) (a : ℕ) : Type 0 where
-  pub rows : (flags buffer : List ℕ) (count : ℕ) → readUnit s a flags buffer .answer ≡ Accepted count → (count ≤ 1024) × (length flags ≤ 4094)
-  pub row-room : (flags buffer : List ℕ) → 8192 ≤ length buffer → (place : ℕ) → ¬ (readUnit s a flags buffer .answer ≡ Refused 14 place)
-  pub flags : (bytes : List ℕ) → Bytes bytes → (buffer : List ℕ) (count : ℕ) → writeFlags s a bytes buffer .answer ≡ Accepted count → (count ≤ 4094) × (length bytes ≤ 8192)
-  pub flag-room : (bytes : List ℕ) → Bytes bytes → (buffer : List ℕ) → 4094 ≤ length buffer → (place : ℕ) → ¬ (writeFlags s a bytes buffer .answer ≡ Refused 17 place)
+  -- an accepted reading
+  pub rows : (flags buffer : List ℕ) (count : ℕ) → readUnit s a flags buffer .answer ≡ Accepted count
+      → (count ≤ 1024) × (length flags ≤ 4094)
+  pub row-room : (flags buffer : List ℕ) → 8192 ≤ length buffer → (place : ℕ)
+      → ¬ (readUnit s a flags buffer .answer ≡ Refused 14 place)
+  -- an accepted way back
+  pub flags : (bytes : List ℕ) → Bytes bytes → (buffer : List ℕ) (count : ℕ)
+      → writeFlags s a bytes buffer .answer ≡ Accepted count → (count ≤ 4094) × (length bytes ≤ 8192)
+  pub flag-room : (bytes : List ℕ) → Bytes bytes → (buffer : List ℕ) → 4094 ≤ length buffer → (place : ℕ)
+      → ¬ (writeFlags s a bytes buffer .answer ≡ Refused 17 place)
 
 abbrev pub Bounds : Type 0
 Bounds = (s : Settings) (a : ℕ) → Bounded s a

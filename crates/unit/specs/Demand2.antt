@@ -1,5 +1,5 @@
--- Demand 2, one claim about every unit that refusals 1 to 10 leave: "Flags become the blocks, in coding order, that H.266's coding tree gives for them; rows
--- become the flags that give them, and are refused exactly when no flags do."
+-- Demand 2, one claim about every unit that refusals 1 to 10 leave: "Flags become the blocks, in coding order, that
+-- H.266's coding tree gives for them; rows become the flags that give them, and are refused exactly when no flags do."
 use Prim.Native.Nat.{ℕ, _*_, _%_}
 use mathlib.Core.Path.{_≡_}
 use mathlib.Core.List.{List}
@@ -26,7 +26,8 @@ pub record Exact (s : Settings) (a : ℕ) : Type 0 where
   -- rows become the flags of the coding tree that has them
   pub turns : TurnsExactly s a
   -- whole rows are refused exactly when no flags give them
-  pub refused : (bytes : List ℕ) → Bytes bytes → length bytes % 8 ≡ 0 → (buffer : List ℕ) → (writeFlags s a bytes buffer .answer ≡ Refused 16 0) ↔ ¬ Given s a bytes
+  pub refused : (bytes : List ℕ) → Bytes bytes → length bytes % 8 ≡ 0 → (buffer : List ℕ)
+      → (writeFlags s a bytes buffer .answer ≡ Refused 16 0) ↔ ¬ Given s a bytes
 
 abbrev pub Demand2 : Type 0
 Demand2 = (s : Settings) (a : ℕ) → unitRefusal s a ≡ 0 → Exact s a

@@ -12,4 +12,6 @@ use Rattle.unit.specs.Luma.{limitsOf, kindOf, rootAt}
 
 -- in settings that pass, of every unit, every node that a walk can reach and that is out of the picture has an open split
 abbrev pub EdgeOpen : Type 0
-EdgeOpen = (s : Settings) (a : ℕ) → unitRefusal s a ≡ 0 → (n : Node) → Reached (kindOf s) (rootAt s a) n → inside (limitsOf s) n ≡ false → someOpen (rightsOf (kindOf s) n) ≡ true
+EdgeOpen =
+    (s : Settings) (a : ℕ) → unitRefusal s a ≡ 0 → (n : Node) → Reached (kindOf s) (rootAt s a) n
+    → inside (limitsOf s) n ≡ false → someOpen (rightsOf (kindOf s) n) ≡ true

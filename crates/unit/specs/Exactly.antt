@@ -23,7 +23,8 @@ abbrev pub OneOf : ℕ → List ℕ → Type 0
 OneOf n [] = ⊥
 OneOf n (m ∷ ms) = (n ≡ m) ⊎ OneOf n ms
 
--- an answer that accepts, or refuses with one of these numbers; 0 is none of them, so no refusal has the number of an accepted call
+-- an answer that accepts, or refuses with one of these numbers; 0 is none of them, so no refusal has the number of an
+-- accepted call
 abbrev pub AcceptedOr : List ℕ → Answer → Type 0
 AcceptedOr numbers (Accepted count) = Unit {0}
 AcceptedOr numbers (Refused number place) = OneOf number numbers
@@ -33,19 +34,24 @@ abbrev pub Bytes : List ℕ → Type 0
 Bytes [] = Unit {0}
 Bytes (b ∷ bs) = (b < 256) × Bytes bs
 
--- A unit that refusals 1 to 10 leave is read exactly so: the flags of a coding tree give the rows of this tree, no other flags are accepted, flags say one tree at
--- most, and what is not accepted is refused with 11 to 14.
+-- A unit that refusals 1 to 10 leave is read exactly so: the flags of a coding tree give the rows of this tree, no other
+-- flags are accepted, flags say one tree at most, and what is not accepted is refused with 11 to 14.
 pub record ReadsExactly (s : Settings) (a : ℕ) : Type 0 where
-  pub reads : (t : UnitTree s a) (buffer : List ℕ) → readUnit s a (flagsOf t) buffer ≡ deliver 14 (length (rowsOf t)) (tableBytes (rowsOf t)) buffer
-  pub only : (flags buffer : List ℕ) (m : ℕ) → readUnit s a flags buffer .answer ≡ Accepted m → (t : UnitTree s a) × (flagsOf t ≡ flags)
+  pub reads : (t : UnitTree s a) (buffer : List ℕ)
+      → readUnit s a (flagsOf t) buffer ≡ deliver 14 (length (rowsOf t)) (tableBytes (rowsOf t)) buffer
+  pub only : (flags buffer : List ℕ) (m : ℕ) → readUnit s a flags buffer .answer ≡ Accepted m
+      → (t : UnitTree s a) × (flagsOf t ≡ flags)
   pub unique : (t u : UnitTree s a) → flagsOf t ≡ flagsOf u → t ≡ u
   pub numbers : (flags buffer : List ℕ) → AcceptedOr (11 ∷ 12 ∷ 13 ∷ 14 ∷ []) (readUnit s a flags buffer .answer)
 
--- Its rows are turned back exactly so: the bytes of a tree's rows give its flags, no other bytes are accepted, whole rows are refused with 16 exactly
--- where no tree has them, rows belong to one tree at most, and what is not accepted is refused with 15 to 17.
+-- Its rows are turned back exactly so: the bytes of a tree's rows give its flags, no other bytes are accepted, whole rows
+-- are refused with 16 exactly where no tree has them, rows belong to one tree at most, and what is not accepted is
+-- refused with 15 to 17.
 pub record TurnsExactly (s : Settings) (a : ℕ) : Type 0 where
-  pub turns : (t : UnitTree s a) (buffer : List ℕ) → writeFlags s a (tableBytes (rowsOf t)) buffer ≡ deliver 17 (length (flagsOf t)) (flagsOf t) buffer
-  pub only : (bytes : List ℕ) → Bytes bytes → (buffer : List ℕ) (m : ℕ) → writeFlags s a bytes buffer .answer ≡ Accepted m
+  pub turns : (t : UnitTree s a) (buffer : List ℕ)
+      → writeFlags s a (tableBytes (rowsOf t)) buffer ≡ deliver 17 (length (flagsOf t)) (flagsOf t) buffer
+  pub only : (bytes : List ℕ) → Bytes bytes → (buffer : List ℕ) (m : ℕ)
+      → writeFlags s a bytes buffer .answer ≡ Accepted m
       → (t : UnitTree s a) × (tableBytes (rowsOf t) ≡ bytes) × (length (flagsOf t) ≡ m)
   pub refused : (bytes : List ℕ) → Bytes bytes → length bytes % 8 ≡ 0 → (buffer : List ℕ)
       → (writeFlags s a bytes buffer .answer ≡ Refused 16 0) ↔ ((t : UnitTree s a) → ¬ (tableBytes (rowsOf t) ≡ bytes))

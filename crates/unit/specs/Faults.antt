@@ -1,5 +1,5 @@
--- What is wrong with a call on a single unit: document 01's numbers and places, each beside the fault that it names. A fault counts only where none of
--- those before it, in document 01's order, is met; so a call has one at most.
+-- What is wrong with a call on a single unit: document 01's numbers and places, each beside the fault that it names. A
+-- fault counts only where none of those before it, in document 01's order, is met; so a call has one at most.
 use Prim.Native.Nat.{ℕ, _*_, _/_, _%_, _≤_, _<_}
 use mathlib.Core.Path.{_≡_}
 use mathlib.Core.List.{List, [], _∷_, _++_}
@@ -19,7 +19,8 @@ use Rattle.unit.specs.Exactly.{UnitTree, OneOf, AcceptedOr}
 
 -- ---- the settings and the unit
 
--- 1 to 9: the number of the first rule that the settings break (`settingsRefusal`: "Checked in this order, first hit wins")
+-- 1 to 9: the number of the first rule that the settings break (`settingsRefusal`: "Checked in this order, first hit
+-- wins")
 abbrev pub SettingsFault : Settings → ℕ → Type 0
 SettingsFault s number = (settingsRefusal s ≡ number) × OneOf number (1 ∷ 2 ∷ 3 ∷ 4 ∷ 5 ∷ 6 ∷ 7 ∷ 8 ∷ 9 ∷ [])
 
@@ -31,30 +32,39 @@ pub data UnitFault (s : Settings) (a : ℕ) : ℕ → Type 0 where
 -- ---- flags, by the coding trees of a root
 
 pub data FlagFault (k : Kind) (root : Node) (flags : List ℕ) : ℕ → ℕ → Type 0 where
-  -- "A present flag lies past the end; place: the number of bytes": the flags are the beginning of a tree's, which has more
-  end-early : (t : Tree k root) (flag : ℕ) (more : List ℕ) → flagsOf t ≡ flags ++ (flag ∷ more) → FlagFault k root flags 11 (length flags)
-  -- "A byte above 1 where a present flag is read; place: its index": what stands before it is the beginning of a tree's flags, which has a flag there
+  -- "A present flag lies past the end; place: the number of bytes": the flags are the beginning of a tree's, which has
+  -- more
+  end-early : (t : Tree k root) (flag : ℕ) (more : List ℕ) → flagsOf t ≡ flags ++ (flag ∷ more)
+      → FlagFault k root flags 11 (length flags)
+  -- "A byte above 1 where a present flag is read; place: its index": what stands before it is the beginning of a tree's
+  -- flags, which has a flag there
   no-flag : (t : Tree k root) (front : List ℕ) (byte : ℕ) (after : List ℕ) (flag : ℕ) (more : List ℕ)
-      → flags ≡ front ++ (byte ∷ after) → 1 < byte → flagsOf t ≡ front ++ (flag ∷ more) → FlagFault k root flags 12 (length front)
+      → flags ≡ front ++ (byte ∷ after) → 1 < byte → flagsOf t ≡ front ++ (flag ∷ more)
+      → FlagFault k root flags 12 (length front)
   -- "Bytes, of any value, follow the last flag; place: the first one": the flags begin with all of a tree's
-  run-over : (t : Tree k root) (byte : ℕ) (after : List ℕ) → flags ≡ flagsOf t ++ (byte ∷ after) → FlagFault k root flags 13 (length (flagsOf t))
+  run-over : (t : Tree k root) (byte : ℕ) (after : List ℕ) → flags ≡ flagsOf t ++ (byte ∷ after)
+      → FlagFault k root flags 13 (length (flagsOf t))
 
 -- ---- the two calls, by the length of the buffer that they are lent
 
 pub data ReadFault (s : Settings) (a : ℕ) (flags : List ℕ) (room : ℕ) : ℕ → ℕ → Type 0 where
   read-unit : {number : ℕ} → UnitFault s a number → ReadFault s a flags room number 0
-  read-flags : {number place : ℕ} → unitRefusal s a ≡ 0 → FlagFault (kindOf s) (rootAt s a) flags number place → ReadFault s a flags room number place
+  read-flags : {number place : ℕ} → unitRefusal s a ≡ 0 → FlagFault (kindOf s) (rootAt s a) flags number place
+      → ReadFault s a flags room number place
   -- "Row buffer shorter than 8 × rows; place: rows needed"
-  read-room : unitRefusal s a ≡ 0 → (t : UnitTree s a) → flagsOf t ≡ flags → room < 8 * length (rowsOf t) → ReadFault s a flags room 14 (length (rowsOf t))
+  read-room : unitRefusal s a ≡ 0 → (t : UnitTree s a) → flagsOf t ≡ flags → room < 8 * length (rowsOf t)
+      → ReadFault s a flags room 14 (length (rowsOf t))
 
 pub data TurnFault (s : Settings) (a : ℕ) (bytes : List ℕ) (room : ℕ) : ℕ → ℕ → Type 0 where
   turn-unit : {number : ℕ} → UnitFault s a number → TurnFault s a bytes room number 0
   -- "Row bytes no multiple of 8; place: whole rows"
   turn-cut : unitRefusal s a ≡ 0 → ¬ (length bytes % 8 ≡ 0) → TurnFault s a bytes room 15 (length bytes / 8)
   -- "No flags give these rows": they are those of no tree
-  turn-none : unitRefusal s a ≡ 0 → length bytes % 8 ≡ 0 → ((t : UnitTree s a) → ¬ (tableBytes (rowsOf t) ≡ bytes)) → TurnFault s a bytes room 16 0
+  turn-none : unitRefusal s a ≡ 0 → length bytes % 8 ≡ 0 → ((t : UnitTree s a) → ¬ (tableBytes (rowsOf t) ≡ bytes))
+      → TurnFault s a bytes room 16 0
   -- "Flag buffer shorter than the flags; place: flags needed"
-  turn-room : unitRefusal s a ≡ 0 → (t : UnitTree s a) → tableBytes (rowsOf t) ≡ bytes → room < length (flagsOf t) → TurnFault s a bytes room 17 (length (flagsOf t))
+  turn-room : unitRefusal s a ≡ 0 → (t : UnitTree s a) → tableBytes (rowsOf t) ≡ bytes → room < length (flagsOf t)
+      → TurnFault s a bytes room 17 (length (flagsOf t))
 
 -- ---- a call that its faults decide
 
@@ -65,10 +75,14 @@ readNumbers = 1 ∷ 2 ∷ 3 ∷ 4 ∷ 5 ∷ 6 ∷ 7 ∷ 8 ∷ 9 ∷ 10 ∷ 11 �
 abbrev pub turnNumbers : List ℕ
 turnNumbers = 1 ∷ 2 ∷ 3 ∷ 4 ∷ 5 ∷ 6 ∷ 7 ∷ 8 ∷ 9 ∷ 10 ∷ 15 ∷ 16 ∷ 17 ∷ []
 
--- A call with an answer, by the faults that it may have, the numbers that it uses, and what it was lent, before and after: its answer accepts, or refuses with one of
--- the numbers; it refuses with a number and a place exactly where these are its fault's; it accepts exactly where it has none; and a refusal leaves what was lent as it was.
+-- A call with an answer, by the faults that it may have, the numbers that it uses, and what it was lent, before and
+-- after.
 pub record Decides {Lent : Type 0} (Fault : ℕ → ℕ → Type 0) (numbers : List ℕ) (answer : Answer) (lent left : Lent) : Type 0 where
+  -- its answer accepts, or refuses with one of the numbers
   pub uses : AcceptedOr numbers answer
+  -- it refuses with a number and a place exactly where these are its fault's
   pub refuses : (number place : ℕ) → (answer ≡ Refused number place) ↔ Fault number place
+  -- it accepts exactly where it has no fault: "Everything else is accepted"
   pub accepts : ((count : ℕ) × (answer ≡ Accepted count)) ↔ ((number place : ℕ) → ¬ Fault number place)
+  -- "Buffers and session stay untouched": a refusal leaves what was lent as it was
   pub leaves : (number place : ℕ) → answer ≡ Refused number place → left ≡ lent
