@@ -12,7 +12,7 @@
  * of the height, QT depth, MTT depth.
  *
  * An answer is two numbers. answer[0] is COLWYTHAR_ACCEPTED, which is 0, where the call is accepted, else the number of
- * the refusal, which never is 0; answer[1] is the count of rows, flags or units, or the refusal's place, 0 where none is
+ * the refusal, which is never 0; answer[1] is the count of rows, flags or units, or the refusal's place, 0 where none is
  * named below. A refused call leaves every buffer and the due address as they were; an accepted one leaves the bytes
  * past its answer as they were.
  *
@@ -34,38 +34,39 @@ extern "C" {
 #define COLWYTHAR_MAX_ROW_BYTES 8192
 #define COLWYTHAR_MAX_FLAGS 4094
 
-/* The numbers of an answer. They are tested in this order, within each group, and the first that fails is answered. */
+/* The numbers of an answer. Within a group the first that fails, in the order of the numbers, is answered; but 11 and 12
+ * are met in the walk, whichever comes first, and the session's are tested in the order 22, 20, 21, before the flags. */
 #define COLWYTHAR_ACCEPTED 0
 
 /* The settings. */
-#define COLWYTHAR_BAD_CTU 1      /* CTU side not 32, 64 or 128 */
-#define COLWYTHAR_BAD_MIN_CB 2   /* MinCb not a power of two from 4 to the smaller of 64 and the CTU side */
-#define COLWYTHAR_BAD_MIN_QT 3   /* MinQt not a power of two from MinCb to the smaller of 64 and the CTU side */
-#define COLWYTHAR_BAD_DEPTH 4    /* M above 2 x (exponent of the CTU side - exponent of MinCb) */
-#define COLWYTHAR_BAD_MAX_BT 5   /* MaxBt not a power of two from MinQt to the CTU side */
-#define COLWYTHAR_BAD_MAX_TT 6   /* MaxTt not a power of two from MinQt to the smaller of 64 and the CTU side */
-#define COLWYTHAR_BAD_WIDTH 7    /* width 0, above 16,384, or no multiple of the larger of 8 and MinCb */
-#define COLWYTHAR_BAD_HEIGHT 8   /* height likewise */
-#define COLWYTHAR_BAD_EDGE 9     /* M is 0, and width or height no multiple of MinQt */
+#define COLWYTHAR_BAD_CTU            1 /* CTU side not 32, 64 or 128 */
+#define COLWYTHAR_BAD_MIN_CB         2 /* MinCb not a power of two from 4 to the smaller of 64 and the CTU side */
+#define COLWYTHAR_BAD_MIN_QT         3 /* MinQt not a power of two from MinCb to the smaller of 64 and the CTU side */
+#define COLWYTHAR_BAD_DEPTH          4 /* M above 2 x (exponent of the CTU side - exponent of MinCb) */
+#define COLWYTHAR_BAD_MAX_BT         5 /* MaxBt not a power of two from MinQt to the CTU side */
+#define COLWYTHAR_BAD_MAX_TT         6 /* MaxTt not a power of two from MinQt to the smaller of 64 and the CTU side */
+#define COLWYTHAR_BAD_WIDTH          7 /* width 0, above 16,384, or no multiple of the larger of 8 and MinCb */
+#define COLWYTHAR_BAD_HEIGHT         8 /* height likewise */
+#define COLWYTHAR_BAD_EDGE           9 /* M is 0, and width or height no multiple of MinQt */
 
 /* The unit. */
-#define COLWYTHAR_NO_UNIT 10     /* no such unit */
+#define COLWYTHAR_NO_UNIT           10 /* no such unit */
 
 /* Reading flags. */
-#define COLWYTHAR_FLAGS_END 11   /* a flag is missing: the flags end too early; place: the number of bytes */
-#define COLWYTHAR_NO_FLAG 12     /* a byte above 1 where a flag is read; place: its index */
-#define COLWYTHAR_FLAGS_LEFT 13  /* bytes follow the last flag; place: the first of them */
-#define COLWYTHAR_FEW_ROWS 14    /* row buffer too short; place: the rows needed */
+#define COLWYTHAR_FLAGS_END         11 /* a flag is missing: the flags end too early; place: the number of bytes */
+#define COLWYTHAR_BAD_FLAG          12 /* a byte above 1 where a flag is read; place: its index */
+#define COLWYTHAR_FLAGS_LEFT        13 /* bytes follow the last flag; place: the first of them */
+#define COLWYTHAR_SHORT_ROW_BUFFER  14 /* row buffer too short; place: the rows needed */
 
 /* Turning rows back. */
-#define COLWYTHAR_CUT_ROW 15     /* row bytes no multiple of 8; place: the whole rows */
-#define COLWYTHAR_NO_TREE 16     /* no flags give these rows */
-#define COLWYTHAR_FEW_FLAGS 17   /* flag buffer too short; place: the flags needed */
+#define COLWYTHAR_CUT_ROW           15 /* row bytes no multiple of 8; place: the whole rows */
+#define COLWYTHAR_NO_TREE           16 /* no flags give these rows */
+#define COLWYTHAR_SHORT_FLAG_BUFFER 17 /* flag buffer too short; place: the flags needed */
 
-/* The session: tested in the order 22, 20, 21, before the flags. */
-#define COLWYTHAR_COMPLETE 20    /* the picture is complete */
-#define COLWYTHAR_NOT_DUE 21     /* the address is not the due one; place: the due one */
-#define COLWYTHAR_NO_SESSION 22  /* the settings fail 1 to 9, or the due address exceeds the unit count */
+/* The session. */
+#define COLWYTHAR_COMPLETE          20 /* the picture is complete */
+#define COLWYTHAR_NOT_DUE           21 /* the address is not the due one; place: the due one */
+#define COLWYTHAR_NO_SESSION        22 /* the settings fail 1 to 9, or the due address exceeds the unit count */
 
 /* Reads the flags of the unit at an address into the row buffer. Answers the number of rows, or 1 to 14. */
 void colwythar_read_unit(const uint32_t settings[8], uint64_t address, const uint8_t *flags, size_t flags_len,

@@ -11,7 +11,7 @@ use Rattle.unit.specs.Answers.{Outcome, Meets}
 use Rattle.picture.specs.declared.Called.{Called}
 use Rattle.picture.specs.declared.Opened.{Opened}
 use Rattle.picture.specs.Session.{openedNumber, opening, Call, Yields}
-use Rattle.colwythar.specs.Words.{sessionIn, answerWords, dueAfter, unitsOf, countWords, Leaves, Opens, Moves}
+use Rattle.colwythar.specs.Words.{sessionIn, answerWords, dueAfter, unitsOf, countWords, Leaves, OpensTo, Moves}
 
 -- one unit, whichever way: the settings that were read from the words are the words' settings
 pub passed-on : (words : List ℕ) {s : Settings} → s ≡ settingsIn words
@@ -35,7 +35,7 @@ moved-on words e {due} {c} {r} {answer} {left} y w =
 -- an opening: its words, and the address due after it
 pub opened-to : (words : List ℕ) (due : ℕ) {s : Settings} → s ≡ settingsIn words → {o : Opened} → o ≡ opening s
     → {number next : ℕ} → number ≡ openedNumber o → next ≡ dueAfter o due
-    → Opens (opening (settingsIn words)) due next (number ∷ 0 ∷ [])
+    → OpensTo (opening (settingsIn words)) due next (number ∷ 0 ∷ [])
 opened-to words due e f n d = record { answers = rw (← e, ← f, n); moves = rw (← e, ← f, d) }
 
 -- a count of units

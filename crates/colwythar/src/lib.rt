@@ -10,7 +10,7 @@ ghost use Rattle.settings.specs.Words.{settingsIn};
 ghost use Rattle.unit.specs.Reader.{readUnit};
 ghost use Rattle.unit.specs.Writer.{writeFlags};
 ghost use Rattle.picture.specs.Session.{opening, call};
-ghost use Rattle.colwythar.specs.Words.{answerWords, dueAfter, unitsOf, countWords, sessionIn, Leaves, Opens, Moves};
+ghost use Rattle.colwythar.specs.Words.{answerWords, dueAfter, unitsOf, countWords, sessionIn, Leaves, OpensTo, Moves};
 
 fn put_answer(a: Answer, answer: &mut [u64; 2])
     ensures { λ _. ⌜ now (answer .exit) ≡ answerWords a ⌝ }
@@ -60,11 +60,11 @@ fn due_after(opened: Opened, due: u64) -> u64
     }
 }
 
-// Opens the session of a picture: refusals 1 to 9, or 0. The session is the settings and the due address, which an
+// OpensTo the session of a picture: refusals 1 to 9, or 0. The session is the settings and the due address, which an
 // accepted opening sets.
 #[no_mangle]
 pub extern "C" fn colwythar_open(settings: &[u32; 8], due: &mut u64, answer: &mut [u64; 2])
-    ensures { λ _. ⌜ Opens (opening (settingsIn (now (settings .entry)))) (now (due .entry)) (now (due .exit)) (now (answer .exit)) ⌝ }
+    ensures { λ _. ⌜ OpensTo (opening (settingsIn (now (settings .entry)))) (now (due .entry)) (now (due .exit)) (now (answer .exit)) ⌝ }
 {
     let opened = Session::open(settings::from_words(settings));
     *due = due_after(opened, *due);

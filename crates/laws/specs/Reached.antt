@@ -8,8 +8,8 @@ use Rattle.tree.specs.Kind.{Kind}
 use Rattle.tree.specs.Splits.{rightsOf, allows}
 use Rattle.tree.specs.Children.{children, cornerInside}
 
--- the root, where its corner lies in the picture; and of every decision that a node reached allows, the children whose
--- corner does
+-- the root, if its corner lies in the picture; and, for each decision that a reached node allows, every child whose corner
+-- lies in the picture
 pub data Reached (k : Kind) (root : Node) : Node → Type 0 where
   begins : cornerInside (k .limits) root ≡ true → Reached k root root
   goes-on : {n c : Node} (d : Decision) → Reached k root n → allows (rightsOf k n) d ≡ true

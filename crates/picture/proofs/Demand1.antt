@@ -1,5 +1,5 @@
 -- Demand 1: the opening and the unit call are decided by their faults, as the two calls on a single unit are.
-use Prim.Native.Nat.{ℕ, _*_, _≤_, _<_}
+use Prim.Native.Nat.{ℕ, _+_, _*_, _≤_, _<_}
 use mathlib.Core.Path.{_≡_, refl, sym, ap, subst, _∙_}
 use mathlib.Core.Bool.{Bool, true, false, cond, not, _||_}
 use mathlib.Core.List.{List, [], _∷_}
@@ -11,7 +11,9 @@ use lib.Dec.{ltb, eqb}
 use borrow.Author.Tests.{eq-eqb, ne-eqb, lt-ltb, le-ltb, lt-leb}
 use Rattle.settings.specs.declared.Settings.{Settings}
 use Rattle.settings.specs.Checks.{settingsRefusal}
+use Rattle.settings.specs.Faults.{SettingsFault}
 use Rattle.settings.specs.Units.{unitCount, unitRefusal}
+use Rattle.settings.proofs.Faults.{settings-fault, settings-refused, fault-range}
 use Rattle.laws.proofs.Tests.{never}
 use Rattle.tree.specs.Tree.{flagsOf, rowsOf}
 use Rattle.unit.specs.declared.Answer.{Answer}
@@ -20,10 +22,10 @@ use Rattle.unit.specs.Answers.{Outcome, refused}
 use Rattle.unit.specs.Luma.{kindOf, rootAt}
 use Rattle.unit.specs.Reader.{readUnit}
 use Rattle.unit.specs.Exactly.{OneOf}
-use Rattle.unit.specs.Faults.{SettingsFault, FlagFault, ReadFault, read-unit, read-flags, read-room}
+use Rattle.unit.specs.Faults.{FlagFault, ReadFault, read-unit, read-flags, read-room}
 use Rattle.unit.proofs.Decided.{decides, same-fault, is-refused, reading-decides, turning-decides, read-refused}
 use Rattle.unit.proofs.ReadsExactly.{fault-number}
-use Rattle.unit.proofs.UnitFaults.{settings-fault, settings-some, unit-refused}
+use Rattle.unit.proofs.UnitFaults.{settings-number, unit-refused}
 use Rattle.picture.specs.declared.Session.{Session}
 use Rattle.picture.specs.declared.Opened.{Opened}
 use Rattle.picture.specs.declared.Opened.the-variants.{Fresh, Refused}
@@ -33,28 +35,32 @@ use Rattle.picture.specs.Demand1.{Opens, UnitDue, CallFault, call-settin
 -- ---- the opening
 
 module _ (s : Settings) where
-  opens-with : settingsRefusal s ≡ 0 → opening s ≡ Fresh (record { settings = s; due = 0 })
+  pub opens-with : settingsRefusal s ≡ 0 → opening s ≡ Fresh (record { settings = s; due = 0 })
   unfolding opening
   opens-with e = rw (eq-eqb (settingsRefusal s) 0 e)
 
-  refused-with : ¬ (settingsRefusal s ≡ 0) → opening s ≡ Refused (settingsRefusal s)
+  pub refused-with : ¬ (settingsRefusal s ≡ 0) → opening s ≡ Refused (settingsRefusal s)
   unfolding opening
   refused-with e = rw (ne-eqb (settingsRefusal s) 0 e)
 
   faulty : {number : ℕ} → SettingsFault s number → ¬ (settingsRefusal s ≡ 0)
-  faulty f z = let e = f .0 in let l = settings-some s f in omega arith
+  faulty f z = let e = settings-refused s f in let r = fault-range s f in omega arith
 
   opens : Opens s
   opens = go (ℕ-discrete (settingsRefusal s) 0)
     where
       go : Dec (settingsRefusal s ≡ 0) → Opens s
       go (yes e) = let o = opens-with e in record {
+        uses = λ number g. never (cc);
         refuses = λ number. (λ g. never (cc), λ f. absurd (faulty f e));
         accepts = (λ g number f. faulty f e, λ none. o);
       }
       go (no e) = let o = refused-with e in let f = settings-fault s (settingsRefusal s) refl (omega arith) in record {
-        refuses = λ number.
-            (λ g. let n : settingsRefusal s ≡ number = cc in subst (SettingsFault s) n f, λ f. o ∙ ap Refused (f .0));
+        uses = λ number g. let n : settingsRefusal s ≡ number = cc in settings-number s (subst (SettingsFault s) n f);
+        refuses = λ number. (
+          λ g. let n : settingsRefusal s ≡ number = cc in subst (SettingsFault s) n f,
+          λ h. o ∙ ap Refused (settings-refused s h),
+        );
         accepts = (λ g number h. never (cc), λ none. absurd (none (settingsRefusal s) f));
       }
 
@@ -153,5 +159,16 @@ module _ (t : Session) (c : Call) where
   calls : callDecides t c
   calls = decides (CallFault t c) callNumbers call-fault (λ number place f. kept number place (call-refused number place f)) call-number
 
+moves : (t : Session) (c : Call) (count : ℕ) → unitCall t c .answer ≡ answer.Accepted count
+    → following t (unitCall t c .answer) ≡ record { settings = t .settings; due = t .due + 1 }
+moves t c count e = rw e
+
 pub demand1 : Demand1
-demand1 = record { opens = opens; calls = calls; reads = reading-decides; turns = turning-decides }
+demand1 = record {
+  opens = opens;
+  calls = calls;
+  due-unit = meets-none;
+  moves = moves;
+  reads = reading-decides;
+  turns = turning-decides;
+}

@@ -18,7 +18,7 @@ use Rattle.unit.specs.Answers.{Outcome, accepted}
 use Rattle.unit.specs.Luma.{rootOf}
 use Rattle.sessions.specs.Samples.{inSquare}
 use Rattle.sessions.specs.Coding.{Coding}
-use Rattle.sessions.specs.Forest.{Part, no-tree, a-tree, forestFlags, forestRows, rootCopies}
+use Rattle.sessions.specs.Forest.{UnitPart, no-tree, a-tree, forestFlags, forestRows, rootCopies}
 use Rattle.sessions.proofs.Order.{Order}
 use Rattle.sessions.proofs.Tiling.{Tiling}
 use Rattle.sessions.proofs.Counts.{square-bit}
@@ -59,7 +59,7 @@ module _ (o : OneTree) where
           → (c .address ≡ a) × (call t c ≡ o .read a (c .flags) (c .buffer))
 
   -- a unit's only part is its root
-  abbrev parts : ℕ → List (Part (Unit {0}))
+  abbrev parts : ℕ → List (UnitPart (Unit {0}))
   parts a = record { table = tt; kind = o .kind; root = rootIn a } ∷ []
 
   one-root : (a px py : ℕ) → rootCopies (λ i j. true) tt (parts a) px py ≡ bit (inSquare (o .square a) px py) 1

@@ -11,7 +11,7 @@ use Rattle.sides.proofs.Bools.{and-left, and-right, and-intro}
 use Rattle.settings.specs.declared.Settings.{Settings}
 use Rattle.settings.specs.Units.{unitsOver, unitCount, squareAt}
 use Rattle.settings.specs.declared.Square.{Square}
-use Rattle.sessions.specs.Samples.{inSquare, inside}
+use Rattle.sessions.specs.Samples.{inSquare, isSample}
 use Rattle.sessions.proofs.Tiling.{Tiling}
 
 -- the units side by side, c samples wide: the one that holds p
@@ -84,10 +84,10 @@ module _ (s : Settings) (some : 0 < s .ctu) (px py : ℕ) (inX : px < s .width) 
 -- ---- so the squares tile the picture
 
 module _ (s : Settings) (some : 0 < s .ctu) where
-  in-width : (px py : ℕ) → inside (s .width) (s .height) px py ≡ true → px < s .width
+  in-width : (px py : ℕ) → isSample (s .width) (s .height) px py ≡ true → px < s .width
   in-width px py h = ltb-true px (s .width) (and-left (ltb px (s .width)) _ h)
 
-  in-height : (px py : ℕ) → inside (s .width) (s .height) px py ≡ true → py < s .height
+  in-height : (px py : ℕ) → isSample (s .width) (s .height) px py ≡ true → py < s .height
   in-height px py h = ltb-true py (s .height) (and-right (ltb px (s .width)) _ h)
 
   own-corner : (q : Square) → 0 < q .side → inSquare q (q .x) (q .y) ≡ true

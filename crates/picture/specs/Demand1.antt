@@ -2,20 +2,22 @@
 -- isn't due, flags that end early, run over or are no flags, rows that no tree gives, a lent buffer that is too short.
 -- Each refusal has its number and place from document 01 and leaves every buffer and the session unchanged. Everything
 -- else is accepted, for all input, and each call ends." That each call ends is part of every proved contract.
-use Prim.Native.Nat.{ℕ, _*_, _<_}
+use Prim.Native.Nat.{ℕ, _+_, _*_, _<_}
 use mathlib.Core.Path.{_≡_}
 use mathlib.Core.List.{List, [], _∷_}
 use mathlib.Core.Logic.{_↔_}
 use lib.ListN.{length}
 use Rattle.settings.specs.declared.Settings.{Settings}
 use Rattle.settings.specs.Checks.{settingsRefusal}
+use Rattle.settings.specs.Faults.{SettingsFault}
 use Rattle.settings.specs.Units.{unitCount}
 use Rattle.tree.specs.Tree.{flagsOf, rowsOf}
+use Rattle.unit.specs.declared.Answer.the-variants.{Accepted}
 use Rattle.unit.specs.Luma.{kindOf, rootAt}
 use Rattle.unit.specs.Reader.{readUnit}
 use Rattle.unit.specs.Writer.{writeFlags}
-use Rattle.unit.specs.Exactly.{UnitTree, Bytes}
-use Rattle.unit.specs.Faults.{SettingsFault, FlagFault, ReadFault, TurnFault, readNumbers, turnNumbers, Decides}
+use Rattle.unit.specs.Exactly.{UnitTree, OneOf, Bytes}
+use Rattle.unit.specs.Faults.{FlagFault, ReadFault, TurnFault, readNumbers, turnNumbers, Decides}
 use Rattle.picture.specs.declared.Session.{Session}
 use Rattle.picture.specs.declared.Opened.the-variants.{Fresh, Refused}
 use Rattle.picture.specs.Session.{Call, opening, unitCall, following}
@@ -23,6 +25,8 @@ use Rattle.picture.specs.Session.{Call, opening, unitCall, following}
 -- an opening: refused with a number exactly where this is the fault of the settings, and else it yields the settings
 -- given, with address 0 due
 pub record Opens (s : Settings) : Type 0 where
+  -- "Opening a session uses 1 to 9"
+  pub uses : (number : ℕ) → opening s ≡ Refused number → OneOf number (1 ∷ 2 ∷ 3 ∷ 4 ∷ 5 ∷ 6 ∷ 7 ∷ 8 ∷ 9 ∷ [])
   pub refuses : (number : ℕ) → (opening s ≡ Refused number) ↔ SettingsFault s number
   pub accepts : (opening s ≡ Fresh (record { settings = s; due = 0 })) ↔ ((number : ℕ) → ¬ SettingsFault s number)
 
@@ -57,14 +61,20 @@ callDecides t c =
     (t, c .buffer) (following t (unitCall t c .answer), unitCall t c .buffer)
 
 pub record Demand1 : Type 0 where
-  -- "Opening a session uses 1 to 9"
   pub opens : (s : Settings) → Opens s
   -- the unit call, on every session, also one that no opening yielded
   pub calls : (t : Session) (c : Call) → callDecides t c
-  -- a single unit's reader, and the way back
+  -- on the due unit it is the reading of that unit, the whole buffer included
+  pub due-unit : (t : Session) (c : Call) → UnitDue t → c .address ≡ t .due
+      → unitCall t c ≡ readUnit (t .settings) (t .due) (c .flags) (c .buffer)
+  -- "An accepted unit yields the next session, with the same settings and the following address due"
+  pub moves : (t : Session) (c : Call) (count : ℕ) → unitCall t c .answer ≡ Accepted count
+      → following t (unitCall t c .answer) ≡ record { settings = t .settings; due = t .due + 1 }
+  -- a single unit's reader
   pub reads : (s : Settings) (a : ℕ) (flags buffer : List ℕ)
       → Decides (ReadFault s a flags (length buffer)) readNumbers (readUnit s a flags buffer .answer)
       buffer (readUnit s a flags buffer .buffer)
+  -- the way back; row bytes are bytes by the type `&[u8]`
   pub turns : (s : Settings) (a : ℕ) (bytes : List ℕ) → Bytes bytes → (buffer : List ℕ)
       → Decides (TurnFault s a bytes (length buffer)) turnNumbers (writeFlags s a bytes buffer .answer)
       buffer (writeFlags s a bytes buffer .buffer)

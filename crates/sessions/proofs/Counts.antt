@@ -10,7 +10,7 @@ use Rattle.settings.specs.declared.Square.{Square}
 use Rattle.tree.specs.Splits.{bit}
 use Rattle.tree.specs.Rows.{Row}
 use Rattle.laws.specs.Geometry.{span, rectangle, copies}
-use Rattle.sessions.specs.Samples.{inSquare, inside}
+use Rattle.sessions.specs.Samples.{inSquare, isSample}
 
 pub both : (a b : Bool) → bit a 1 * bit b 1 ≡ bit (a && b) 1
 both true b = omega arith
@@ -35,7 +35,7 @@ from-start : (l p : ℕ) → within 0 l p ≡ ltb p l
 from-start l p = let e : 0 + l ≡ l = omega arith in rw (le-leb 0 p (omega arith), e)
 
 module _ (px py : ℕ) where
-  pub picture-bit : (width height : ℕ) → rectangle 0 0 width height px py ≡ bit (inside width height px py) 1
+  pub picture-bit : (width height : ℕ) → rectangle 0 0 width height px py ≡ bit (isSample width height px py) 1
   unfolding span
   picture-bit width height = rw (from-start width px, from-start height py) (both (ltb px width) (ltb py height))
 

@@ -15,14 +15,14 @@ use Rattle.laws.specs.Geometry.{rectangle, copies}
 use Rattle.laws.proofs.Bytes.{Reads, nothing, reads-part, reads-all}
 use Rattle.laws.proofs.Unique.{alone}
 use Rattle.sessions.specs.Samples.{InPipeline}
-use Rattle.sessions.specs.Forest.{Part, Forest, no-tree, a-tree, forestFlags, forestRows, rootCopies}
+use Rattle.sessions.specs.Forest.{UnitPart, Forest, no-tree, a-tree, forestFlags, forestRows, rootCopies}
 use Rattle.sessions.proofs.Counts.{copies-append}
 use Rattle.sessions.proofs.Parts.{GoodRoot, part-covered, part-pipeline, part-legible}
 
 module _ {Table : Type 0} where
   -- flags say one forest at most
   module _ (flags : List ℕ) where
-    forest-alone : {ps : List (Part Table)} (t u : Forest ps) (at to end : ℕ)
+    forest-alone : {ps : List (UnitPart Table)} (t u : Forest ps) (at to end : ℕ)
         → Reads flags at (forestFlags t) to → Reads flags at (forestFlags u) end → (t ≡ u) × (to ≡ end)
     unfolding forestFlags
     forest-alone no-tree no-tree at to end nothing nothing = (refl, refl)
@@ -33,19 +33,19 @@ module _ {Table : Type 0} where
         let y = forest-alone ts us (a .0) to end (a .2) (rw (← (x .1)) at (b .2)) in
         (ap₂ (λ i j. a-tree i j) (x .0) (y .0), y .1)
 
-  pub forest-unique : {ps : List (Part Table)} (t u : Forest ps) → forestFlags t ≡ forestFlags u → t ≡ u
+  pub forest-unique : {ps : List (UnitPart Table)} (t u : Forest ps) → forestFlags t ≡ forestFlags u → t ≡ u
   forest-unique t u e =
       let r = reads-all (forestFlags t) in
       let s = subst (λ b. Reads (forestFlags t) 0 b (length (forestFlags t))) e r in
       forest-alone (forestFlags t) t u 0 _ _ r s .0
 
   module _ (width height cell : ℕ) where
-    abbrev pub GoodPart : Part Table → Type 0
+    abbrev pub GoodPart : UnitPart Table → Type 0
     GoodPart p = GoodRoot width height cell (p .kind) (p .root)
 
     module _ (same : Table → Table → Bool) where
       module _ (i : Table) where
-        pub forest-covered : {ps : List (Part Table)} → Every GoodPart ps → (t : Forest ps) (px py : ℕ)
+        pub forest-covered : {ps : List (UnitPart Table)} → Every GoodPart ps → (t : Forest ps) (px py : ℕ)
             → copies px py (forestRows same i t) ≡ rootCopies same i ps px py * rectangle 0 0 width height px py
         unfolding forestRows rootCopies copies
         forest-covered every-none no-tree px py = omega arith
@@ -60,7 +60,7 @@ module _ {Table : Type 0} where
             one true = part-covered s t px py
             one false = omega arith
 
-        pub forest-pipeline : {ps : List (Part Table)} → Every GoodPart ps → (t : Forest ps)
+        pub forest-pipeline : {ps : List (UnitPart Table)} → Every GoodPart ps → (t : Forest ps)
             → Every (InPipeline cell) (forestRows same i t)
         unfolding forestRows
         forest-pipeline every-none no-tree = every-none
@@ -73,7 +73,7 @@ module _ {Table : Type 0} where
 
       -- the rows of all tables, whatever rows follow in each, say the flags and the rows that follow
       module _ (itself : (i : Table) → same i i ≡ true) where
-        pub forest-legible : {ps : List (Part Table)} → Every GoodPart ps → (t u : Forest ps)
+        pub forest-legible : {ps : List (UnitPart Table)} → Every GoodPart ps → (t u : Forest ps)
             (more others : Table → List Row)
             → ((i : Table) → forestRows same i t ++ more i ≡ forestRows same i u ++ others i)
             → (forestFlags t ≡ forestFlags u) × ((i : Table) → more i ≡ others i)

@@ -8,7 +8,7 @@ use Rattle.tree.specs.Splits.{bit}
 use Rattle.laws.specs.Every.{Every}
 use Rattle.sessions.specs.Samples.{inSquare}
 use Rattle.sessions.specs.Coding.{Coding}
-use Rattle.sessions.specs.Forest.{Part, Forest, forestFlags, forestRows, rootCopies}
+use Rattle.sessions.specs.Forest.{UnitPart, Forest, forestFlags, forestRows, rootCopies}
 use Rattle.sessions.proofs.Order.{Order}
 use Rattle.sessions.proofs.Tiling.{Tiling}
 use Rattle.sessions.proofs.Forests.{GoodPart}
@@ -20,7 +20,7 @@ module _ (g : Coding) where
     pub same : g .Table → g .Table → Bool
     pub itself : (i : g .Table) → same i i ≡ true
     pub some-table : g .Table
-    pub parts : ℕ → List (Part (g .Table))
+    pub parts : ℕ → List (UnitPart (g .Table))
     pub good : (a : ℕ) → a < g .count → Every (GoodPart (g .width) (g .height) (g .cell)) (parts a)
     pub fill : (i : g .Table) (a px py : ℕ) → rootCopies same i (parts a) px py ≡ bit (inSquare (g .square a) px py) 1
 

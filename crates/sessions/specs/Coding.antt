@@ -1,5 +1,6 @@
 -- What demand 3 speaks of: the calls of a session, the units accepted by them, and the picture. A coding is this for
--- one choice of a session's settings; opening, the settings and their refusals are the session's own.
+-- one choice of a session's settings; opening, the settings and their refusals are the session's own. `After`
+-- (Demand.antt) says no more than the coding lets it say: `takes`, `rows` and `TurnsBack` are part of the claim.
 use Prim.Native.Nat.{ℕ}
 use mathlib.Core.List.{List}
 use mathlib.Core.Option.{Option}

@@ -28,7 +28,7 @@ module _ (g : Coding) where
 
   -- whether (px, py) is a sample of the picture
   abbrev pub inPicture : ℕ → ℕ → Bool
-  inPicture px py = samples.inside (g .width) (g .height) px py
+  inPicture px py = samples.isSample (g .width) (g .height) px py
 
   -- whether (px, py) is a sample of one of the units
   abbrev pub inUnits : List (g .Taken) → ℕ → ℕ → Bool

@@ -3,3 +3,4 @@ pub mod First
 pub mod Passed
 pub mod Grid
 pub mod Numbers
+pub mod Faults

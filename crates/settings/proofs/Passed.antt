@@ -22,7 +22,7 @@ pub record Sides (s : Settings) : Type 0 where
   pub cb : Side 4 (min 64 (s .ctu)) (s .mincb)
   pub qt : Side (s .mincb) (min 64 (s .ctu)) (s .minqt)
 
-one-of : (n : ℕ) (a b : Bool) → eqb n 32 ≡ a → eqb n 64 ≡ b → (a || b || eqb n 128) ≡ true → (n ≡ 32) ⊎ ((n ≡ 64) ⊎ (n ≡ 128))
+pub one-of : (n : ℕ) (a b : Bool) → eqb n 32 ≡ a → eqb n 64 ≡ b → (a || b || eqb n 128) ≡ true → (n ≡ 32) ⊎ ((n ≡ 64) ⊎ (n ≡ 128))
 one-of n true b p q h = inl (eqb-true n 32 p)
 one-of n false true p q h = inr (inl (eqb-true n 64 q))
 one-of n false false p q h = inr (inr (eqb-true n 128 h))
@@ -51,7 +51,7 @@ pub record Length (mincb n : ℕ) : Type 0 where
   pub most : n ≤ 16384
   pub multiple : n % max 8 mincb ≡ 0
 
-length-kept : (mincb n : ℕ) → badLength mincb n ≡ false → Length mincb n
+pub length-kept : (mincb n : ℕ) → badLength mincb n ≡ false → Length mincb n
 length-kept mincb n h =
     let a = or-none-left (eqb n 0 || ltb 16384 n) _ h in
     let z = eqb-false n 0 (or-none-left (eqb n 0) _ a) in
@@ -61,7 +61,7 @@ length-kept mincb n h =
       multiple = eqb-true _ 0 (not-false _ (or-none-right (eqb n 0 || ltb 16384 n) _ h));
     }
 
-edge-kept : (s : Settings) → badEdge s ≡ false → s .maxmtt ≡ 0 → (s .width % s .minqt ≡ 0) × (s .height % s .minqt ≡ 0)
+pub edge-kept : (s : Settings) → badEdge s ≡ false → s .maxmtt ≡ 0 → (s .width % s .minqt ≡ 0) × (s .height % s .minqt ≡ 0)
 edge-kept s h d =
     let e = not-false _ (rw (eq-eqb (s .maxmtt) 0 d) at h) in
     let w = eqb (s .width % s .minqt) 0 in

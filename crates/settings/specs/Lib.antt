@@ -1,3 +1,4 @@
 pub mod Checks
 pub mod Units
 pub mod Words
+pub mod Faults

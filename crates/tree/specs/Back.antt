@@ -1,5 +1,6 @@
--- The way back of a node: the flags that give rows. This is an algorithm, without search: at each node the decision follows from the rows ahead. What it means is `Demand2`
--- (unit/specs/Demand2.antt): rows become the flags of the coding tree that has them.
+-- The way back of a node: the flags that give rows. This is an algorithm, without search: at each node the decision
+-- follows from the rows ahead. What it means is `Demand2` (unit/specs/Demand2.antt): rows become the flags of the coding
+-- tree that has them.
 use Prim.Native.Nat.{ℕ, zero, suc, _+_, _*_, _/_, _^_, min}
 use mathlib.Core.Bool.{Bool, true, false, cond, _&&_}
 use mathlib.Core.List.{List, [], _∷_}

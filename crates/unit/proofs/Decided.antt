@@ -1,12 +1,15 @@
 -- The two calls on a single unit are decided by their faults.
 use Prim.Native.Nat.{ℕ, _*_, _%_, _<_}
 use mathlib.Core.Path.{_≡_, refl, sym, ap, subst, _∙_}
+use mathlib.Core.Bool.{Bool, true, false, not, _&&_}
 use mathlib.Core.List.{List, [], _∷_}
 use mathlib.Core.Logic.{_⊎_, inl, inr}
 use native.Mathlib.Omega.{arith}
 use native.Mathlib.Decide.{ℕ-discrete}
 use borrow.Author.Tests.{ne-eqb}
 use lib.ListN.{length}
+use lib.Dec.{eqb}
+use Rattle.sides.proofs.Bools.{clash, and-left, and-right}
 use Rattle.settings.specs.declared.Settings.{Settings}
 use Rattle.settings.specs.Units.{unitRefusal}
 use Rattle.tree.specs.Rows.{tableBytes}
@@ -14,7 +17,7 @@ use Rattle.tree.specs.Tree.{flagsOf, rowsOf}
 use Rattle.laws.proofs.Tests.{never}
 use Rattle.unit.specs.declared.Answer.{Answer}
 use Rattle.unit.specs.declared.Answer.the-variants.{Accepted, Refused}
-use Rattle.unit.specs.Answers.{Outcome, refused, deliver}
+use Rattle.unit.specs.Answers.{numberOf, ZeroIsAccepted, Outcome, refused, deliver}
 use Rattle.unit.specs.Luma.{kindOf, rootAt}
 use Rattle.unit.specs.Reader.{readUnit}
 use Rattle.unit.specs.Writer.{writeFlags}
@@ -51,6 +54,20 @@ module _ {Lent : Type 0} (Fault : ℕ → ℕ → Type 0) (numbers : List ℕ) {
     accepts = (λ x number place f. let e = complete number place f .0 in let g = x .1 in never (cc), free answer refl);
     leaves = λ number place e. complete number place (sound number place e) .1;
   }
+
+-- an answer that uses numbers of a list without 0 has the number 0 exactly where it accepts
+abbrev positive : List ℕ → Bool
+positive [] = true
+positive (n ∷ ns) = not (eqb n 0) && positive ns
+
+no-zero : (numbers : List ℕ) → positive numbers ≡ true → ¬ OneOf 0 numbers
+no-zero (n ∷ ns) p (inl e) = let f : not (eqb n 0) ≡ false = rw (← e) in clash (and-left (not (eqb n 0)) _ p) f
+no-zero (n ∷ ns) p (inr o) = no-zero ns (and-right (not (eqb n 0)) _ p) o
+
+pub zero-accepts : (numbers : List ℕ) → positive numbers ≡ true → (answer : Answer) → AcceptedOr numbers answer
+    → ZeroIsAccepted answer
+zero-accepts numbers p (Accepted count) a = (λ e. (count, refl), λ x. refl)
+zero-accepts numbers p (Refused number place) a = (λ e. absurd (no-zero numbers p (subst (λ n. OneOf n numbers) e a)), λ x. ap (λ y. numberOf y) (x .1))
 
 -- an outcome that is a refusal: its answer, and the buffer as it was
 pub is-refused : {o : Outcome} {number place : ℕ} {buffer : List ℕ} → o ≡ refused number place buffer

@@ -9,9 +9,11 @@ use native.Mathlib.Omega.{arith}
 use borrow.Author.Tests.{eq-eqb, ne-eqb, eqb-true, eqb-false, leb-true, le-leb}
 use Rattle.settings.specs.declared.Settings.{Settings}
 use Rattle.settings.specs.Checks.{sideRules, limitRules, pictureRules, firstHit, settingsRefusal}
+use Rattle.settings.specs.Faults.{SettingsFault}
 use Rattle.settings.specs.Units.{unitCount, unitRefusal}
+use Rattle.settings.proofs.Faults.{settings-fault, settings-refused, fault-range}
 use Rattle.unit.specs.Exactly.{OneOf}
-use Rattle.unit.specs.Faults.{SettingsFault, UnitFault, bad-settings, no-unit}
+use Rattle.unit.specs.Faults.{UnitFault, bad-settings, no-unit}
 
 -- ---- numbers of lists
 
@@ -46,27 +48,14 @@ hit-number k (false ∷ rules) = go (hit-number (k + 1) rules)
     go (inr o) = inr (inr o)
 
 module _ (s : Settings) where
-  pub settings-fault : (number : ℕ) → settingsRefusal s ≡ number → 0 < number → SettingsFault s number
+  -- the number of a fault is one of the list
+  pub settings-number : {number : ℕ} → SettingsFault s number → OneOf number settingsNumbers
   unfolding settingsRefusal
-  settings-fault number e l = go (hit-number 1 (sideRules s ++ (limitRules s ++ pictureRules s)))
+  settings-number {number} f = go (hit-number 1 (sideRules s ++ (limitRules s ++ pictureRules s)))
     where
-      go : (settingsRefusal s ≡ 0) ⊎ OneOf (settingsRefusal s) settingsNumbers → SettingsFault s number
-      go (inl z) = absurd (omega arith)
-      go (inr o) = (e, rw (← e) o)
-
-  settings-range : {number : ℕ} → OneOf number settingsNumbers → (0 < number) × (number ≤ 9)
-  settings-range (inl e) = omega arith
-  settings-range (inr (inl e)) = omega arith
-  settings-range (inr (inr (inl e))) = omega arith
-  settings-range (inr (inr (inr (inl e)))) = omega arith
-  settings-range (inr (inr (inr (inr (inl e))))) = omega arith
-  settings-range (inr (inr (inr (inr (inr (inl e)))))) = omega arith
-  settings-range (inr (inr (inr (inr (inr (inr (inl e))))))) = omega arith
-  settings-range (inr (inr (inr (inr (inr (inr (inr (inl e)))))))) = omega arith
-  settings-range (inr (inr (inr (inr (inr (inr (inr (inr (inl e))))))))) = omega arith
-
-  pub settings-some : {number : ℕ} → SettingsFault s number → 0 < number
-  settings-some f = settings-range (f .1) .0
+      go : (settingsRefusal s ≡ 0) ⊎ OneOf (settingsRefusal s) settingsNumbers → OneOf number settingsNumbers
+      go (inl z) = let e = settings-refused s f in let r = fault-range s f in absurd (omega arith)
+      go (inr o) = rw (settings-refused s f) at o
 
   module _ (a : ℕ) where
     pub unit-fault : (number : ℕ) → unitRefusal s a ≡ number → 0 < number → UnitFault s a number
@@ -77,20 +66,20 @@ module _ (s : Settings) where
             → cond b (cond c 10 0) (settingsRefusal s) ≡ number → UnitFault s a number
         go true true i j e = subst (UnitFault s a) e (no-unit (eqb-true (settingsRefusal s) 0 i) (leb-true (unitCount s) a j))
         go true false i j e = absurd (omega arith)
-        go false c i j e = bad-settings (settings-fault number e l)
+        go false c i j e = bad-settings (settings-fault s number e l)
 
     pub unit-refused : {number : ℕ} → UnitFault s a number → (unitRefusal s a ≡ number) × (0 < number)
     unfolding unitRefusal
     unit-refused (bad-settings f) =
-        let l = settings-some f in
-        let e = f .0 in
-        (rw (ne-eqb (settingsRefusal s) 0 (λ z. omega arith)) e, l)
+        let r = fault-range s f in
+        let e = settings-refused s f in
+        (rw (ne-eqb (settingsRefusal s) 0 (λ z. omega arith)) e, r .0)
     unit-refused (no-unit z l) = (rw (eq-eqb (settingsRefusal s) 0 z, le-leb (unitCount s) a l), omega arith)
 
     pub unit-number : {number : ℕ} → UnitFault s a number → OneOf number unitNumbers
-    unit-number {number} (bad-settings f) = one-of-more number settingsNumbers (10 ∷ []) (f .1)
+    unit-number {number} (bad-settings f) = one-of-more number settingsNumbers (10 ∷ []) (settings-number f)
     unit-number (no-unit z l) = one-of-later 10 settingsNumbers (10 ∷ []) (inl refl)
 
     pub unit-most : {number : ℕ} → UnitFault s a number → number ≤ 10
-    unit-most (bad-settings f) = let r = settings-range (f .1) in omega arith
+    unit-most (bad-settings f) = let r = fault-range s f in omega arith
     unit-most (no-unit z l) = omega arith

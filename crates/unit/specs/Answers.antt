@@ -3,6 +3,7 @@ use Prim.Native.Nat.{ℕ}
 use mathlib.Core.Path.{_≡_}
 use mathlib.Core.Bool.{cond}
 use mathlib.Core.List.{List, _++_}
+use mathlib.Core.Logic.{_↔_}
 use lib.ListN.{length, drop}
 use lib.Dec.{ltb}
 use Rattle.tree.specs.Run.{Run, End, goes, stops}
@@ -13,6 +14,10 @@ use Rattle.unit.specs.declared.Answer.the-variants.{Accepted, Refused}
 abbrev pub numberOf : Answer → ℕ
 numberOf (Accepted count) = 0
 numberOf (Refused number place) = number
+
+-- an answer has the number 0 exactly where it accepts
+abbrev pub ZeroIsAccepted : Answer → Type 0
+ZeroIsAccepted answer = (numberOf answer ≡ 0) ↔ ((count : ℕ) × (answer ≡ Accepted count))
 
 -- its value: the place of a refusal, or the number of rows or flags that an accepted call answers
 abbrev pub valueOf : Answer → ℕ

@@ -1,5 +1,5 @@
 -- What the header and docs/REFUSALS.md promise of every unit: at most 1,024 rows and 4,094 flags, and buffers of so many
--- are never too short.
+-- are never too short. The unit call on the due unit is this reading (`Demand1 .due-unit`, picture/specs/Demand1.antt).
 use Prim.Native.Nat.{ℕ, _≤_}
 use mathlib.Core.Path.{_≡_}
 use mathlib.Core.List.{List}
@@ -14,11 +14,13 @@ pub record Bounded (s : Settings) (a : ℕ) : Type 0 where
   -- an accepted reading
   pub rows : (flags buffer : List ℕ) (count : ℕ) → readUnit s a flags buffer .answer ≡ Accepted count
       → (count ≤ 1024) × (length flags ≤ 4094)
+  -- a row buffer of 8,192 bytes is never too short
   pub row-room : (flags buffer : List ℕ) → 8192 ≤ length buffer → (place : ℕ)
       → ¬ (readUnit s a flags buffer .answer ≡ Refused 14 place)
   -- an accepted way back
   pub flags : (bytes : List ℕ) → Bytes bytes → (buffer : List ℕ) (count : ℕ)
       → writeFlags s a bytes buffer .answer ≡ Accepted count → (count ≤ 4094) × (length bytes ≤ 8192)
+  -- a flag buffer of 4,094 bytes is never too short
   pub flag-room : (bytes : List ℕ) → Bytes bytes → (buffer : List ℕ) → 4094 ≤ length buffer → (place : ℕ)
       → ¬ (writeFlags s a bytes buffer .answer ≡ Refused 17 place)
 

@@ -1,4 +1,4 @@
--- Demand 2, one claim about every unit that refusals 1 to 10 leave: "Flags become the blocks, in coding order, that
+-- Demand 2, one claim about every unit that passes 1 to 10: "Flags become the blocks, in coding order, that
 -- H.266's coding tree gives for them; rows become the flags that give them, and are refused exactly when no flags do."
 use Prim.Native.Nat.{ℕ, _*_, _%_}
 use mathlib.Core.Path.{_≡_}

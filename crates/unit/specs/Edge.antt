@@ -1,4 +1,4 @@
--- Document 01's remark at 9: "an edge node would have no open split; in all other settings it has one".
+-- The second half of document 01's remark at 9: an edge node "would have no open split; in all other settings it has one".
 use Prim.Native.Nat.{ℕ}
 use mathlib.Core.Path.{_≡_}
 use mathlib.Core.Bool.{true, false}

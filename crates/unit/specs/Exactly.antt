@@ -23,8 +23,8 @@ abbrev pub OneOf : ℕ → List ℕ → Type 0
 OneOf n [] = ⊥
 OneOf n (m ∷ ms) = (n ≡ m) ⊎ OneOf n ms
 
--- an answer that accepts, or refuses with one of these numbers; 0 is none of them, so no refusal has the number of an
--- accepted call
+-- an answer that accepts, or refuses with one of these numbers; 0 is in none of the lists used, so no refusal has the
+-- number of an accepted call
 abbrev pub AcceptedOr : List ℕ → Answer → Type 0
 AcceptedOr numbers (Accepted count) = Unit {0}
 AcceptedOr numbers (Refused number place) = OneOf number numbers
@@ -34,7 +34,7 @@ abbrev pub Bytes : List ℕ → Type 0
 Bytes [] = Unit {0}
 Bytes (b ∷ bs) = (b < 256) × Bytes bs
 
--- A unit that refusals 1 to 10 leave is read exactly so: the flags of a coding tree give the rows of this tree, no other
+-- A unit that passes 1 to 10 is read as follows: the flags of a coding tree give the rows of this tree, no other
 -- flags are accepted, flags say one tree at most, and what is not accepted is refused with 11 to 14.
 pub record ReadsExactly (s : Settings) (a : ℕ) : Type 0 where
   pub reads : (t : UnitTree s a) (buffer : List ℕ)
@@ -44,7 +44,7 @@ pub record ReadsExactly (s : Settings) (a : ℕ) : Type 0 where
   pub unique : (t u : UnitTree s a) → flagsOf t ≡ flagsOf u → t ≡ u
   pub numbers : (flags buffer : List ℕ) → AcceptedOr (11 ∷ 12 ∷ 13 ∷ 14 ∷ []) (readUnit s a flags buffer .answer)
 
--- Its rows are turned back exactly so: the bytes of a tree's rows give its flags, no other bytes are accepted, whole rows
+-- Its rows are turned back as follows: the bytes of a tree's rows give its flags, no other bytes are accepted, whole rows
 -- are refused with 16 exactly where no tree has them, rows belong to one tree at most, and what is not accepted is
 -- refused with 15 to 17.
 pub record TurnsExactly (s : Settings) (a : ℕ) : Type 0 where

@@ -7,6 +7,7 @@ use mathlib.Core.Logic.{_↔_}
 use lib.ListN.{length}
 use Rattle.settings.specs.declared.Settings.{Settings}
 use Rattle.settings.specs.Checks.{settingsRefusal}
+use Rattle.settings.specs.Faults.{SettingsFault}
 use Rattle.settings.specs.Units.{unitCount, unitRefusal}
 use Rattle.tree.specs.declared.Node.{Node}
 use Rattle.tree.specs.Kind.{Kind}
@@ -15,15 +16,11 @@ use Rattle.tree.specs.Tree.{Tree, flagsOf, rowsOf}
 use Rattle.unit.specs.declared.Answer.{Answer}
 use Rattle.unit.specs.declared.Answer.the-variants.{Accepted, Refused}
 use Rattle.unit.specs.Luma.{kindOf, rootAt}
-use Rattle.unit.specs.Exactly.{UnitTree, OneOf, AcceptedOr}
+use Rattle.unit.specs.Exactly.{UnitTree, AcceptedOr}
 
 -- ---- the settings and the unit
 
--- 1 to 9: the number of the first rule that the settings break (`settingsRefusal`: "Checked in this order, first hit
--- wins")
-abbrev pub SettingsFault : Settings → ℕ → Type 0
-SettingsFault s number = (settingsRefusal s ≡ number) × OneOf number (1 ∷ 2 ∷ 3 ∷ 4 ∷ 5 ∷ 6 ∷ 7 ∷ 8 ∷ 9 ∷ [])
-
+-- 1 to 9, the first rule that the settings break (settings/specs/Faults.antt), then 10
 pub data UnitFault (s : Settings) (a : ℕ) : ℕ → Type 0 where
   bad-settings : {number : ℕ} → SettingsFault s number → UnitFault s a number
   -- "No such unit"
@@ -32,16 +29,16 @@ pub data UnitFault (s : Settings) (a : ℕ) : ℕ → Type 0 where
 -- ---- flags, by the coding trees of a root
 
 pub data FlagFault (k : Kind) (root : Node) (flags : List ℕ) : ℕ → ℕ → Type 0 where
-  -- "A present flag lies past the end; place: the number of bytes": the flags are the beginning of a tree's, which has
-  -- more
+  -- "A present flag lies past the end; place: the number of bytes": the flags are the beginning of some tree's flags, and
+  -- that tree has more
   end-early : (t : Tree k root) (flag : ℕ) (more : List ℕ) → flagsOf t ≡ flags ++ (flag ∷ more)
       → FlagFault k root flags 11 (length flags)
-  -- "A byte above 1 where a present flag is read; place: its index": what stands before it is the beginning of a tree's
-  -- flags, which has a flag there
+  -- "A byte above 1 where a present flag is read; place: its index": what stands before it is the beginning of some
+  -- tree's flags, and that tree has a flag there
   no-flag : (t : Tree k root) (front : List ℕ) (byte : ℕ) (after : List ℕ) (flag : ℕ) (more : List ℕ)
       → flags ≡ front ++ (byte ∷ after) → 1 < byte → flagsOf t ≡ front ++ (flag ∷ more)
       → FlagFault k root flags 12 (length front)
-  -- "Bytes, of any value, follow the last flag; place: the first one": the flags begin with all of a tree's
+  -- "Bytes, of any value, follow the last flag; place: the first one": the flags begin with all flags of some tree
   run-over : (t : Tree k root) (byte : ℕ) (after : List ℕ) → flags ≡ flagsOf t ++ (byte ∷ after)
       → FlagFault k root flags 13 (length (flagsOf t))
 
@@ -75,8 +72,7 @@ readNumbers = 1 ∷ 2 ∷ 3 ∷ 4 ∷ 5 ∷ 6 ∷ 7 ∷ 8 ∷ 9 ∷ 10 ∷ 11 �
 abbrev pub turnNumbers : List ℕ
 turnNumbers = 1 ∷ 2 ∷ 3 ∷ 4 ∷ 5 ∷ 6 ∷ 7 ∷ 8 ∷ 9 ∷ 10 ∷ 15 ∷ 16 ∷ 17 ∷ []
 
--- A call with an answer, by the faults that it may have, the numbers that it uses, and what it was lent, before and
--- after.
+-- What a call's answer says, given its possible faults, the numbers that it uses, and what it was lent before and after.
 pub record Decides {Lent : Type 0} (Fault : ℕ → ℕ → Type 0) (numbers : List ℕ) (answer : Answer) (lent left : Lent) : Type 0 where
   -- its answer accepts, or refuses with one of the numbers
   pub uses : AcceptedOr numbers answer

@@ -7,8 +7,9 @@
 //! tables, every width and height at the edges, broken settings, lent buffers of every kind of
 //! length, whole sessions, and small units in full.
 //!
-//! `h266` is independent of the engine. `tuned` shares its check of the settings, and the trees that
-//! `samples` grows follow its rules; trees are also drawn from random flags, which know no rules.
+//! `h266` shares nothing with the engine. `tuned` takes from `h266` the check of the settings and the
+//! rules of open splits, and so does the generator of trees; trees are also drawn from random flags,
+//! which know no rules.
 //!
 //! ```
 //! use differential::{calls, Engine};
