@@ -2,7 +2,7 @@
 use Prim.Native.Nat.{ℕ, zero, suc, _≤_}
 use mathlib.Core.Path.{_≡_, refl, _∙_}
 use mathlib.Core.Bool.{Bool, true, false}
-use mathlib.Core.List.{List, [], _∷_, _++_, append-assoc}
+use mathlib.Core.List.{List, _∷_, _++_, append-assoc}
 use mathlib.Core.Logic.{_⊎_, inl, inr}
 use lib.ListN.{length}
 use Rattle.tree.specs.declared.Node.{Node}
@@ -16,7 +16,7 @@ use Rattle.tree.specs.Children.{children, cornerInside}
 use Rattle.tree.specs.Rows.{Row}
 use Rattle.tree.specs.Run.{End, goes, stops, Run, before, goOn, andThen, overAll}
 use Rattle.tree.specs.Reading.{enter, walk}
-use Rattle.tree.specs.Tree.{Trees, none, skip, node, flagsOf}
+use Rattle.tree.specs.Tree.{Trees, skip, node, flagsOf}
 use Rattle.laws.specs.Every.{Every, every-none, every-more}
 use Rattle.laws.proofs.Tests.{never}
 use Rattle.laws.proofs.Bytes.{reads-within}

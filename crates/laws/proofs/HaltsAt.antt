@@ -1,7 +1,7 @@
 -- Where the flags of a decision stop: at their end, 11, or at a byte above 1, 12; and what was read up to there begins
 -- the flags of an allowed decision.
 use Prim.Native.Nat.{ℕ, _+_, _≤_, _<_}
-use mathlib.Core.Path.{_≡_, refl, ap, _∙_}
+use mathlib.Core.Path.{_≡_, refl, _∙_}
 use mathlib.Core.Bool.{Bool, true, false, cond, _||_}
 use mathlib.Core.List.{List, [], _∷_, _++_, append-assoc}
 use lib.ListN.{length, getD}
@@ -16,7 +16,7 @@ use Rattle.tree.specs.declared.Decision.the-variants.{Leaf, Quad, Binary, Terna
 use Rattle.tree.specs.declared.Flag.{Flag}
 use Rattle.tree.specs.declared.Flag.the-variants.{Value, Bad}
 use Rattle.tree.specs.declared.Choice.the-variants.{Refused}
-use Rattle.tree.specs.Splits.{pick, bit, Rights, allows}
+use Rattle.tree.specs.Splits.{pick, Rights, allows}
 use Rattle.tree.specs.Flags.{cutOpen, splitThere, splitAbsent, quadThere, quadAbsent, verticalThere, verticalAbsent, binaryThere, binaryAbsent, flagAt, afterBinary, afterVertical, afterQuad, afterSplit, decide, flagByte, cutFlags, flagsFor}
 use Rattle.laws.proofs.Tests.{never}
 use Rattle.laws.proofs.Bytes.{Reads, nothing, reads-join, reads-within}

@@ -4,7 +4,6 @@ use Prim.Native.Nat.{ℕ, suc, _+_, _≤_, _<_}
 use mathlib.Core.Path.{_≡_, refl, sym, ap, subst, _∙_}
 use mathlib.Core.Bool.{Bool, true, false}
 use mathlib.Core.List.{List, [], _∷_, _++_, append-assoc, append-nil}
-use mathlib.Core.Logic.{_⊎_, inl, inr}
 use lib.ListN.{length, length-append}
 use native.Mathlib.Omega.{arith}
 use Rattle.tree.specs.declared.Node.{Node}
@@ -12,11 +11,10 @@ use Rattle.tree.specs.declared.Decision.{Decision}
 use Rattle.tree.specs.declared.Decision.the-variants.{Leaf, Quad, Binary, Ternary}
 use Rattle.tree.specs.declared.Direction.{Direction}
 use Rattle.tree.specs.Kind.{Kind}
-use Rattle.tree.specs.Splits.{pick, bit, Rights, rightsOf}
+use Rattle.tree.specs.Splits.{pick, Rights, rightsOf}
 use Rattle.tree.specs.Flags.{splitThere, quadThere, verticalThere, binaryThere, flagByte, cutFlags, flagsFor}
 use Rattle.tree.specs.Tree.{Trees, none, skip, node, flagsOf}
 use Rattle.laws.specs.Every.{Every, every-none, every-more}
-use Rattle.laws.proofs.Tests.{never}
 use Rattle.laws.proofs.Every.{every-join}
 use Rattle.laws.proofs.Bytes.{Reads, reads-from, reads-all}
 use Rattle.laws.proofs.Unique.{alone}

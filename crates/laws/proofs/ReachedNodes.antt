@@ -2,15 +2,15 @@
 -- where it is out.
 use mathlib.Core.Path.{_≡_, subst, sym}
 use mathlib.Core.Bool.{true, false}
-use mathlib.Core.List.{List, [], _∷_, List·Memᴰ, List·Memᴰ·cases-cons}
+use mathlib.Core.List.{List, List·Memᴰ, List·Memᴰ·cases-cons}
 use mathlib.Core.Logic.{_⊎_, inl, inr}
 use Rattle.tree.specs.declared.Limits.{Limits}
 use Rattle.tree.specs.declared.Node.{Node}
-use Rattle.tree.specs.Kind.{Kind, luma}
+use Rattle.tree.specs.Kind.{luma}
 use Rattle.tree.specs.Splits.{inside, rightsOf}
 use Rattle.tree.specs.Flags.{someOpen}
 use Rattle.tree.specs.Children.{cornerInside}
-use Rattle.laws.specs.Every.{Every, every-none, every-more}
+use Rattle.laws.specs.Every.{Every, every-more}
 use Rattle.laws.specs.Reached.{Reached, begins, goes-on}
 use Rattle.laws.proofs.Edge.{Valid, Good, good-kids, edge-has-open-split}
 

@@ -1,13 +1,11 @@
 -- Demand 1: the opening and the unit call are decided by their faults, as the two calls on a single unit are.
-use Prim.Native.Nat.{ℕ, _+_, _*_, _≤_, _<_}
+use Prim.Native.Nat.{ℕ, _+_, _<_}
 use mathlib.Core.Path.{_≡_, refl, sym, ap, subst, _∙_}
-use mathlib.Core.Bool.{Bool, true, false, cond, not, _||_}
-use mathlib.Core.List.{List, [], _∷_}
-use mathlib.Core.Logic.{_⊎_, inl, inr}
+use mathlib.Core.List.{List}
+use mathlib.Core.Logic.{inl, inr}
 use native.Mathlib.Omega.{arith}
 use native.Mathlib.Decide.{ℕ-discrete, decLt}
 use lib.ListN.{length}
-use lib.Dec.{ltb, eqb}
 use borrow.Author.Tests.{eq-eqb, ne-eqb, lt-ltb, le-ltb, lt-leb}
 use Rattle.settings.specs.declared.Settings.{Settings}
 use Rattle.settings.specs.Checks.{settingsRefusal}
@@ -15,19 +13,15 @@ use Rattle.settings.specs.Faults.{SettingsFault}
 use Rattle.settings.specs.Units.{unitCount, unitRefusal}
 use Rattle.settings.proofs.Faults.{settings-fault, settings-refused, fault-range}
 use Rattle.laws.proofs.Tests.{never}
-use Rattle.tree.specs.Tree.{flagsOf, rowsOf}
-use Rattle.unit.specs.declared.Answer.{Answer}
 use Rattle.unit.specs.declared.Answer.the-variants as answer
-use Rattle.unit.specs.Answers.{Outcome, refused}
-use Rattle.unit.specs.Luma.{kindOf, rootAt}
+use Rattle.unit.specs.Answers.{refused}
 use Rattle.unit.specs.Reader.{readUnit}
 use Rattle.unit.specs.Exactly.{OneOf}
-use Rattle.unit.specs.Faults.{FlagFault, ReadFault, read-unit, read-flags, read-room}
-use Rattle.unit.proofs.Decided.{decides, same-fault, is-refused, reading-decides, turning-decides, read-refused}
+use Rattle.unit.specs.Faults.{ReadFault, read-unit, read-flags, read-room}
+use Rattle.unit.proofs.Decided.{decides, answer-fault, reading-decides, turning-decides, read-refused}
 use Rattle.unit.proofs.ReadsExactly.{fault-number}
 use Rattle.unit.proofs.UnitFaults.{settings-number, unit-refused}
 use Rattle.picture.specs.declared.Session.{Session}
-use Rattle.picture.specs.declared.Opened.{Opened}
 use Rattle.picture.specs.declared.Opened.the-variants.{Fresh, Refused}
 use Rattle.picture.specs.Session.{Call, opening, unitCall, following}
 use Rattle.picture.specs.Demand1.{Opens, UnitDue, CallFault, call-settings, call-past, call-complete, call-address, call-flags, call-room, callNumbers, callDecides, Demand1}
@@ -108,11 +102,7 @@ module _ (t : Session) (c : Call) where
   call-fault number place e = go (ℕ-discrete (settingsRefusal (t .settings)) 0)
     where
       from : {k p : ℕ} → CallFault t c k p → unitCall t c ≡ refused k p (c .buffer) → CallFault t c number place
-      from {k} {p} f w =
-          let g : answer.Refused k p ≡ answer.Refused number place = ap (λ o. o .answer) (sym w) ∙ e in
-          let x : k ≡ number = cc in
-          let y : p ≡ place = cc in
-          same-fault (CallFault t c) f x y
+      from f w = answer-fault (CallFault t c) f w e
 
       read : UnitDue t → c .address ≡ t .due → {k p : ℕ}
           → ReadFault (t .settings) (t .due) (c .flags) (length (c .buffer)) k p → CallFault t c k p

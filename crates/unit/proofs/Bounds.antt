@@ -11,12 +11,12 @@ use Rattle.tree.specs.declared.Direction.the-variants.{Horizontal, Vertical}
 use Rattle.tree.specs.Tree.{flagsOf, rowsOf}
 use Rattle.laws.proofs.ReachedNodes.{reached-opens}
 use Rattle.laws.proofs.Sizes.{rows-fit, flags-fit}
-use Rattle.unit.specs.declared.Answer.the-variants.{Accepted, Refused}
+use Rattle.unit.specs.declared.Answer.the-variants.{Accepted}
 use Rattle.unit.specs.Luma.{kindOf, rootAt}
 use Rattle.unit.specs.Reader.{readUnit}
 use Rattle.unit.specs.Writer.{writeFlags}
 use Rattle.unit.specs.Exactly.{UnitTree, Bytes}
-use Rattle.unit.specs.Bounds.{Bounded, Bounds}
+use Rattle.unit.specs.Bounds.{Bounds}
 use Rattle.unit.specs.Edge.{EdgeOpen}
 use Rattle.unit.specs.Faults.{ReadFault, read-unit, read-flags, read-room, TurnFault, turn-unit, turn-cut, turn-none, turn-room}
 use Rattle.unit.proofs.Decided.{reading-decides, turning-decides}

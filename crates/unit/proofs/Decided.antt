@@ -1,9 +1,9 @@
 -- The two calls on a single unit are decided by their faults.
-use Prim.Native.Nat.{ℕ, _*_, _%_, _<_}
+use Prim.Native.Nat.{ℕ, _%_}
 use mathlib.Core.Path.{_≡_, refl, sym, ap, subst, _∙_}
 use mathlib.Core.Bool.{Bool, true, false, not, _&&_}
 use mathlib.Core.List.{List, [], _∷_}
-use mathlib.Core.Logic.{_⊎_, inl, inr}
+use mathlib.Core.Logic.{inl, inr}
 use native.Mathlib.Omega.{arith}
 use native.Mathlib.Decide.{ℕ-discrete}
 use borrow.Author.Tests.{ne-eqb}
@@ -17,12 +17,12 @@ use Rattle.tree.specs.Tree.{flagsOf, rowsOf}
 use Rattle.laws.proofs.Tests.{never}
 use Rattle.unit.specs.declared.Answer.{Answer}
 use Rattle.unit.specs.declared.Answer.the-variants.{Accepted, Refused}
-use Rattle.unit.specs.Answers.{numberOf, ZeroIsAccepted, Outcome, refused, deliver}
+use Rattle.unit.specs.Answers.{numberOf, ZeroIsAccepted, Outcome, refused}
 use Rattle.unit.specs.Luma.{kindOf, rootAt}
 use Rattle.unit.specs.Reader.{readUnit}
 use Rattle.unit.specs.Writer.{writeFlags}
 use Rattle.unit.specs.Exactly.{OneOf, AcceptedOr, Bytes}
-use Rattle.unit.specs.Faults.{UnitFault, FlagFault, ReadFault, read-unit, read-flags, read-room, TurnFault, turn-unit, turn-cut, turn-none, turn-room, readNumbers, turnNumbers, Decides}
+use Rattle.unit.specs.Faults.{ReadFault, read-unit, read-flags, read-room, TurnFault, turn-unit, turn-cut, turn-none, turn-room, readNumbers, turnNumbers, Decides}
 use Rattle.unit.proofs.Accepts.{deliver-short, undelivered}
 use Rattle.unit.proofs.FlagFaults.{fault-once, no-fault}
 use Rattle.unit.proofs.Parsed.{table-length}
@@ -75,9 +75,18 @@ pub is-refused : {o : Outcome} {number place : ℕ} {buffer : List ℕ} → o �
 is-refused e = (ap (λ o. o .answer) e, ap (λ o. o .buffer) e)
 
 -- the fault of a refusal is that of the same refusal
-pub same-fault : (Fault : ℕ → ℕ → Type 0) {a p number place : ℕ} → Fault a p → a ≡ number → p ≡ place
+same-fault : (Fault : ℕ → ℕ → Type 0) {a p number place : ℕ} → Fault a p → a ≡ number → p ≡ place
     → Fault number place
 same-fault Fault {a} {p} {number} {place} f e g = subst (λ x. Fault x place) e (subst (Fault a) g f)
+
+-- where a call is refused for a fault, this is the fault of its answer
+pub answer-fault : (Fault : ℕ → ℕ → Type 0) {o : Outcome} {buffer : List ℕ} {a p number place : ℕ} → Fault a p
+    → o ≡ refused a p buffer → o .answer ≡ Refused number place → Fault number place
+answer-fault Fault {a = a} {p = p} {number = number} {place = place} f w e =
+    let g : Refused a p ≡ Refused number place = ap (λ o. o .answer) (sym w) ∙ e in
+    let x : a ≡ number = cc in
+    let y : p ≡ place = cc in
+    same-fault Fault f x y
 
 module _ (s : Settings) (a : ℕ) (flags buffer : List ℕ) where
   -- the reading of a unit that is not there
@@ -97,19 +106,11 @@ module _ (s : Settings) (a : ℕ) (flags buffer : List ℕ) where
           let n = table-length (rowsOf (t .0)) in
           let l = d .2 in
           same-fault Fault (read-room h (t .0) (t .1) (omega arith)) (d .0) (d .1)
-      there h (inr f) =
-          let g : Refused (f .0) (f .1) ≡ Refused number place = ap (λ o. o .answer) (sym (unit-read s a h flags buffer ∙ f .3 buffer)) ∙ e in
-          let x : f .0 ≡ number = cc in
-          let y : f .1 ≡ place = cc in
-          same-fault Fault (read-flags h (f .2)) x y
+      there h (inr f) = answer-fault Fault (read-flags h (f .2)) (unit-read s a h flags buffer ∙ f .3 buffer) e
 
       go : Dec (unitRefusal s a ≡ 0) → Fault number place
       go (yes h) = there h (read-or-refused (root-reading (root-of s a h)) flags)
-      go (no h) =
-          let g : Refused (unitRefusal s a) 0 ≡ Refused number place = ap (λ o. o .answer) (sym (unread h)) ∙ e in
-          let x : unitRefusal s a ≡ number = cc in
-          let y : 0 ≡ place = cc in
-          same-fault Fault (read-unit (unit-fault s a (unitRefusal s a) refl (omega arith))) x y
+      go (no h) = answer-fault Fault (read-unit (unit-fault s a (unitRefusal s a) refl (omega arith))) (unread h) e
 
   pub read-refused : (number place : ℕ) → Fault number place → readUnit s a flags buffer ≡ refused number place buffer
   read-refused number place (read-unit f) =
@@ -147,11 +148,7 @@ module _ (s : Settings) (a : ℕ) (bytes : List ℕ) (small : Bytes bytes) (buff
   turn-fault number place e = go (ℕ-discrete (unitRefusal s a) 0)
     where
       from : {k p : ℕ} → Wrong k p → writeFlags s a bytes buffer ≡ refused k p buffer → Wrong number place
-      from {k} {p} f w =
-          let g : Refused k p ≡ Refused number place = ap (λ o. o .answer) (sym w) ∙ e in
-          let x : k ≡ number = cc in
-          let y : p ≡ place = cc in
-          same-fault Wrong f x y
+      from f w = answer-fault Wrong f w e
 
       rows : unitRefusal s a ≡ 0 → length bytes % 8 ≡ 0 → Turned s a bytes → Wrong number place
       rows h w (inl t) =
