@@ -54,8 +54,8 @@ module _ (s : Settings) (p : Passed s) where
       omega arith
 
   -- what `units_over` asks
-  pub units-asks : {n : ℕ} → Length (s .mincb) n → (s .ctu ≡ 2 ^ exponent (s .ctu)) × (s .ctu ≤ 128) × (n ≤ 16384)
-  units-asks l = let u = unit-side (p .ctu) in (u .is, u .most, l .most)
+  pub units-asks : {n : ℕ} → Length (s .mincb) n → (s .ctu ≡ 2 ^ exponent (s .ctu)) × (s .ctu ≤ 128) × (0 < n) × (n ≤ 16384)
+  units-asks l = let u = unit-side (p .ctu) in (u .is, u .most, l .positive, l .most)
 
   pub count-most : unitCount s ≤ 262144
   unfolding unitCount

@@ -5,16 +5,17 @@ use crate::Settings;
 use crate::Square;
 use crate::refusal;
 ghost use mathlib.Core.Path.{_≡_};
-ghost use Prim.Native.Nat.{_≤_, _^_};
+ghost use Prim.Native.Nat.{_≤_, _<_, _^_};
 ghost use Rattle.sides.specs.Side.{exponent};
 ghost use Rattle.settings.specs.Units.{unitsOver, countOf, located};
 
-// The units side by side that reach over n samples.
+// The units side by side that reach over n samples: those that end before the last sample, and the one that holds it.
+// So the compiler sees that they are never 0, and tests no divisor where an address is divided by them.
 fn units_over(side: u32, n: u32) -> u32
-    requires { ⌜ (side ≡ 2 ^ exponent side) × (side ≤ 128) × (n ≤ 16384) ⌝ }
+    requires { ⌜ (side ≡ 2 ^ exponent side) × (side ≤ 128) × (0 < n) × (n ≤ 16384) ⌝ }
     ensures { λ r. ⌜ r ≡ unitsOver side n ⌝ }
 {
-    (n + (side - 1)) >> sides::exponent(side)
+    ((n - 1) >> sides::exponent(side)) + 1
 }
 
 fn wide(x: u32) -> usize
