@@ -28,13 +28,15 @@ shr-result : tie.Need-shr-result
 shr-result c = let l = below (exponent (c .before .args .side)) 7 (omega arith) in omega arith
 
 add-result : tie.Need-add-result
-add-result c = let l = div-le-self (c .before .args .n - 1) (2 ^ exponent (c .before .args .side)) in rw (c .exponent .ensures) (omega arith)
+add-result c =
+    let l = div-le-self (c .before .args .n - 1) (2 ^ exponent (c .before .args .side)) in
+    rw (c .exponent .ensures) (omega arith)
 
 returns : tie.Need-returns
 returns c =
-    let a = c .before in
-    let side = a .pre .0 in
-    rw (c .exponent .ensures, ← side, one-more (a .args .side) (a .args .n) (omega (arith, pow-pos (exponent (a .args .side)))) (a .pre .2))
+    let a = c .before .args in
+    let some : 0 < a .side = omega (arith, pow-pos (exponent (a .side))) in
+    rw (c .exponent .ensures, ← c .before .pre .0, one-more (a .side) (a .n) some (c .before .pre .2))
 
 pub units-over-spec : {M : Type 1} → statement M
 units-over-spec = tie.close (tie.spec sub-result exponent-requires shr-result add-result returns)
