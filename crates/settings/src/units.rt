@@ -49,7 +49,7 @@ pub fn unit_at(s: Settings, address: usize) -> Located
         return Located::Refused(10);
     }
     let a = address as u32;
-    // The one division of a call, in 32 bits: the units across are no power of two.
+    // The one division of the library, in 32 bits: the units across are no power of two.
     Located::At(Square {
         x: a % across * s.ctu,
         y: a / across * s.ctu,
