@@ -1,5 +1,5 @@
 -- Every row of a unit lies inside one pipeline unit or consists of whole ones: no open split of a node above 64 cuts through one.
-use Prim.Native.Nat.{ℕ, _*_, _%_, _≤_, _<_, min, max}
+use Prim.Native.Nat.{ℕ, _*_, _%_, _≤_, _<_, max}
 use mathlib.Core.Path.{_≡_, refl}
 use mathlib.Core.Logic.{_⊎_, inl, inr}
 use mathlib.Core.Bool.{true, false}
@@ -17,7 +17,7 @@ use Rattle.tree.specs.Splits.{along, across, closedNarrow, rightsOf, allows}
 use Rattle.tree.specs.Children.{children}
 use Rattle.tree.specs.Rows.{rowOf}
 use Rattle.tree.specs.Tree.{Tree, rowsOf}
-use Rattle.laws.specs.Geometry.{InOneCell, OfWholeCells}
+use Rattle.laws.specs.Geometry.{InOneCell, OfWholeCells, pipelineSide}
 use Rattle.laws.specs.Every.{Every, every-none, every-more}
 use Rattle.laws.proofs.Leaves.{leaf-start, leaf-side}
 use Rattle.laws.proofs.EveryRow.{every-row}
@@ -30,8 +30,15 @@ use Rattle.laws.proofs.Shape.{Shape, shape-child}
 use Rattle.laws.proofs.Edge.{Grid}
 use Rattle.laws.proofs.Cells.{InOne, larger-fold, small-in-one, one-kids, one-leaf, in-one-cell}
 
-pub fold-64 : Fold 4 64
+fold-64 : Fold 4 64
 fold-64 = record { power = 4; is = refl }
+
+-- R-4's side: up to 64 the unit's own, from 64 on 64
+pub side-to-64 : (side : ℕ) → side ≤ 64 → pipelineSide side ≡ side
+side-to-64 side h = omega arith
+
+pub side-from-64 : (side : ℕ) → 64 ≤ side → pipelineSide side ≡ 64
+side-from-64 side h = omega arith
 
 -- ---- a node of whole cells
 
@@ -126,15 +133,18 @@ module _ (k : Kind) (cb : 4 ≤ k .limits .mincb) (qt : 4 ≤ k .limits .minqt) 
         side : (e : Direction) → Fold 64 (along e n)
         side e = larger-fold fold-64 (sh .side e .fold) (long e)
 
-    -- in cells of 64, and of any power of two from the square's side on
-    pub in-pipeline : (c : ℕ) → Fold 4 c → (n .w ≤ c) ⊎ (c ≡ 64) → Every (λ r. InOneCell c r ⊎ OfWholeCells c r) (rowsOf t)
-    in-pipeline c f (inl le) = let l = fold-least f in every-map (λ r. inl) (in-one-cell k cb qt c (omega arith) (small-in-one f sh at (both-sides n le (omega arith))) t)
-    in-pipeline c f (inr e) = rw e (every-row k placed-kids (λ n p h. placed-leaf n p) t (every-more (root-placed (decLt 64 (n .w))) every-none))
+    -- inside one cell, of any power of two from the square's side on
+    pub in-one : (c : ℕ) → Fold 4 c → n .w ≤ c → Every (InOneCell c) (rowsOf t)
+    in-one c f le = let l = fold-least f in in-one-cell k cb qt c (omega arith) (small-in-one f sh at (both-sides n le (omega arith))) t
 
-    -- so in cells of the smaller of 64 and the square's side
-    pub in-smaller-pipeline : Every (λ r. InOneCell (min 64 (n .w)) r ⊎ OfWholeCells (min 64 (n .w)) r) (rowsOf t)
-    in-smaller-pipeline = go (decLt 64 (n .w))
+    -- in cells of 64
+    in-64 : Every (λ r. InOneCell 64 r ⊎ OfWholeCells 64 r) (rowsOf t)
+    in-64 = every-row k placed-kids (λ n p h. placed-leaf n p) t (every-more (root-placed (decLt 64 (n .w))) every-none)
+
+    -- so in pipeline units, of R-4's side
+    pub in-pipeline : Every (λ r. InOneCell (pipelineSide (n .w)) r ⊎ OfWholeCells (pipelineSide (n .w)) r) (rowsOf t)
+    in-pipeline = go (decLt 64 (n .w))
       where
-        go : Dec (64 < n .w) → Every (λ r. InOneCell (min 64 (n .w)) r ⊎ OfWholeCells (min 64 (n .w)) r) (rowsOf t)
-        go (yes h) = let e : min 64 (n .w) ≡ 64 = omega arith in rw e (in-pipeline 64 fold-64 (inr refl))
-        go (no h) = let e : min 64 (n .w) ≡ n .w = omega arith in rw e (in-pipeline (n .w) (sh .side Vertical .fold) (inl (omega arith)))
+        go : Dec (64 < n .w) → Every (λ r. InOneCell (pipelineSide (n .w)) r ⊎ OfWholeCells (pipelineSide (n .w)) r) (rowsOf t)
+        go (yes h) = rw (side-from-64 (n .w) (omega arith)) in-64
+        go (no h) = rw (side-to-64 (n .w) (omega arith)) (every-map (λ r. inl) (in-one (n .w) (sh .side Vertical .fold) (omega arith)))

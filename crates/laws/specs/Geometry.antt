@@ -41,6 +41,11 @@ pub record OfWholeCells (side : ℕ) (r : Row) : Type 0 where
   pub wide : 2 ^ r .ew % side ≡ 0
   pub high : 2 ^ r .eh % side ≡ 0
 
+-- R-4: the side of the pipeline units, in which the board holds the samples, by the CTU side: "the smaller of 64 and the
+-- CTU side". No split and no flag depends on it: the 64 of clauses 6.4.1 to 6.4.3 is another one (tree/specs/Splits.antt).
+abbrev pub pipelineSide : (ctu : ℕ) → ℕ
+pipelineSide ctu = min 64 ctu
+
 -- a row of which the bytes lose nothing
 pub record SmallRow (r : Row) : Type 0 where
   pub xFits : r .x < 2 ^ 16

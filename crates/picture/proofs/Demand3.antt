@@ -14,18 +14,19 @@ use Rattle.laws.proofs.Tests.{never}
 use Rattle.unit.specs.Reader.{readUnit}
 use Rattle.unit.specs.Writer.{writeFlags}
 use Rattle.sessions.proofs.Order.{raster}
+use Rattle.sessions.proofs.Laws.{Laws}
 use Rattle.sessions.proofs.Demand as sessions
 use Rattle.picture.specs.declared.Session.{Session}
 use Rattle.picture.specs.declared.Opened.the-variants.{Fresh, Refused}
 use Rattle.picture.specs.Session.{Call, opening, badSession, isComplete, unitCall, following}
-use Rattle.picture.specs.OneTree.{greyscale}
+use Rattle.picture.specs.OneTree.{greyscale, oneTree}
 use Rattle.picture.specs.Demand3.{After, Demand3}
 use Rattle.picture.proofs.OneTree.{UnitLaws, SessionLaws, one-tree}
 use Rattle.picture.proofs.StateCalls.{state-laws}
 use Rattle.picture.proofs.LumaUnits.{luma-laws}
 
 module _ (s : Settings) where
-  abbrev at-due : ℕ → Session
+  abbrev pub at-due : ℕ → Session
   at-due a = record { settings = s; due = a }
 
   greyscale-units : settingsRefusal s ≡ 0 → UnitLaws (greyscale s)
@@ -38,10 +39,13 @@ module _ (s : Settings) where
       state-laws (greyscale s) at-due (λ a. badSession (at-due a)) (λ a. isComplete (at-due a)) (λ a c. refl)
       (λ a number place. refl) (λ a m. refl)
 
+  pub greyscale-laws : settingsRefusal s ≡ 0
+      → Laws (oneTree (greyscale s) Session unitCall following) 0 (λ a. a + 1) (λ a t. t ≡ at-due a)
+  greyscale-laws ok = one-tree (greyscale s) (greyscale-units ok) (raster (unitCount s)) greyscale-session
+
   after : settingsRefusal s ≡ 0 → (calls : List Call) → After s (at-due 0) calls
   after ok calls =
-      let laws = one-tree (greyscale s) (greyscale-units ok) (raster (unitCount s)) greyscale-session in
-      let a = sessions.after laws refl calls in
+      let a = sessions.after (greyscale-laws ok) refl calls in
       record {
         covered = a .covered tt;
         complete = a .complete;
@@ -51,7 +55,7 @@ module _ (s : Settings) where
       }
 
 -- a fresh session has the settings given, which pass, and address 0 due
-fresh : (s : Settings) (t : Session) → opening s ≡ Fresh t → (settingsRefusal s ≡ 0) × (at-due s 0 ≡ t)
+pub fresh : (s : Settings) (t : Session) → opening s ≡ Fresh t → (settingsRefusal s ≡ 0) × (at-due s 0 ≡ t)
 unfolding opening
 fresh s t e = go (eqb (settingsRefusal s) 0) refl e
   where

@@ -6,3 +6,4 @@ pub mod StateCalls
 pub mod LumaUnits
 pub mod Demand1
 pub mod Demand3
+pub mod Pipeline

@@ -3,7 +3,6 @@ use Prim.Native.Nat.{ℕ, _<_}
 use mathlib.Core.Path.{_≡_, refl}
 use mathlib.Core.Bool.{Bool, true, false, cond}
 use mathlib.Core.List.{List}
-use mathlib.Core.Logic.{inr}
 use native.Mathlib.Omega.{arith}
 use lib.Dec.{eqb}
 use borrow.Author.Tests.{eqb-true}
@@ -11,7 +10,7 @@ use Rattle.settings.specs.declared.Settings.{Settings}
 use Rattle.settings.specs.Units.{unitCount, squareAt}
 use Rattle.settings.proofs.Passed.{Usable}
 use Rattle.settings.proofs.Grid.{corner-x, corner-y}
-use Rattle.laws.proofs.Pipeline.{fold-64}
+use Rattle.laws.specs.Geometry.{pipelineSide}
 use Rattle.laws.proofs.Tests.{never}
 use Rattle.unit.specs.declared.Answer.the-variants.{Accepted}
 use Rattle.unit.specs.Answers.{refused}
@@ -31,14 +30,16 @@ lumaUnits s refusal = record {
   kind = kindOf s;
   count = unitCount s;
   square = squareAt s;
-  cell = 64;
+  cell = pipelineSide (s .ctu);
   read = λ a flags buffer.
       cond (eqb (refusal a) 0) (readTree (kindOf s) (rootAt s a) flags buffer) (refused (refusal a) 0 buffer);
   turn = λ a bytes buffer.
       cond (eqb (refusal a) 0) (writeRows (kindOf s) (rootAt s a) bytes buffer) (refused (refusal a) 0 buffer);
 }
 
-good-root : {s : Settings} {a : ℕ} → Root s a → GoodRoot (s .width) (s .height) 64 (kindOf s) (rootAt s a)
+good-root : {s : Settings} {a : ℕ} → Root s a
+    → GoodRoot (s .width) (s .height) (pipelineSide (s .ctu)) (kindOf s) (rootAt s a)
+unfolding squareAt
 good-root r =
     let cb = r .valid .leastCb in
     let qt = r .valid .leQt in
@@ -51,8 +52,7 @@ good-root r =
       square = refl;
       fits = r .fits;
       at = λ e. rw (r .side e) (r .at e);
-      fold = fold-64;
-      held = inr refl;
+      pipeline = refl;
     }
 
 module _ (s : Settings) (refusal : ℕ → ℕ) (p : Usable s) (there : (a : ℕ) → refusal a ≡ 0 → a < unitCount s) where

@@ -10,7 +10,7 @@ use Rattle.settings.specs.Units.{unitCount, squareAt}
 use Rattle.tree.specs.Splits.{bit}
 use Rattle.tree.specs.Rows.{Row}
 use Rattle.laws.specs.Every.{Every}
-use Rattle.laws.specs.Geometry.{copies}
+use Rattle.laws.specs.Geometry.{copies, pipelineSide}
 use Rattle.unit.specs.Answers.{accepted}
 use Rattle.unit.specs.Writer.{writeFlags}
 use Rattle.sessions.specs.Samples as samples
@@ -31,9 +31,9 @@ inUnits s us px py = samples.inUnits (λ u. squareAt s (u .address)) (s .width) 
 
 -- ---- the claim
 
--- a row lies inside one 64 by 64 pipeline unit or consists of whole ones
-abbrev pub InPipeline : Row → Type 0
-InPipeline r = samples.InPipeline 64 r
+-- a row lies inside one pipeline unit or consists of whole ones
+abbrev pub InPipeline : Settings → Row → Type 0
+InPipeline s r = samples.InPipeline (pipelineSide (s .ctu)) r
 
 -- turning a unit's rows back into any buffer that is long enough answers the number of its flags, and the buffer then
 -- begins with exactly them, the rest untouched
@@ -50,8 +50,9 @@ pub record After (s : Settings) (t : Session) (calls : List Call) : Type 0 where
   -- "Where the list completes the picture, they are all of its samples"
   pub complete : length (acceptedIn t calls) ≡ unitCount s → (px py : ℕ)
       → inUnits s (acceptedIn t calls) px py ≡ inPicture s px py
-  -- "Each row lies inside one 64 by 64 pipeline unit or consists of whole ones"
-  pub pipeline : Every InPipeline (joined (acceptedIn t calls))
+  -- "Each row lies inside one 64 by 64 pipeline unit or consists of whole ones"; R-4: "Where 64 by 64 stood, that side",
+  -- the smaller of 64 and the CTU side, "stands from now on"
+  pub pipeline : Every (InPipeline s) (joined (acceptedIn t calls))
   -- "For every accepted unit, turning its rows back into any buffer that is long enough answers the number of the flags
   -- accepted for it, and the buffer then begins with exactly these flags"
   pub back : Every (TurnsBack s) (acceptedIn t calls)

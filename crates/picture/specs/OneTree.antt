@@ -7,6 +7,7 @@ use Rattle.settings.specs.declared.Settings.{Settings}
 use Rattle.settings.specs.declared.Square.{Square}
 use Rattle.settings.specs.Units.{unitCount, squareAt}
 use Rattle.tree.specs.Kind.{Kind}
+use Rattle.laws.specs.Geometry.{pipelineSide}
 use Rattle.unit.specs.declared.Answer.{Answer}
 use Rattle.unit.specs.Answers.{Outcome, accepted}
 use Rattle.unit.specs.Luma.{kindOf}
@@ -33,7 +34,7 @@ greyscale s = record {
   kind = kindOf s;
   count = unitCount s;
   square = squareAt s;
-  cell = 64;
+  cell = pipelineSide (s .ctu);
   read = readUnit s;
   turn = writeFlags s;
 }

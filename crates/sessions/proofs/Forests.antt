@@ -8,16 +8,15 @@ use native.Mathlib.Omega.{arith}
 use lib.ListN.{length}
 use Rattle.sides.proofs.Bools.{clash}
 use Rattle.tree.specs.Rows.{Row}
-use Rattle.tree.specs.Tree.{flagsOf, rowsOf}
+use Rattle.tree.specs.Tree.{Tree, flagsOf, rowsOf}
 use Rattle.laws.specs.Every.{Every, every-none, every-more}
 use Rattle.laws.proofs.Every.{every-join}
 use Rattle.laws.specs.Geometry.{rectangle, copies}
 use Rattle.laws.proofs.Bytes.{Reads, nothing, reads-part, reads-all}
 use Rattle.laws.proofs.Unique.{alone}
-use Rattle.sessions.specs.Samples.{InPipeline}
 use Rattle.sessions.specs.Forest.{UnitPart, Forest, no-tree, a-tree, forestFlags, forestRows, rootCopies}
 use Rattle.sessions.proofs.Counts.{copies-append}
-use Rattle.sessions.proofs.Parts.{GoodRoot, part-covered, part-pipeline, part-legible}
+use Rattle.sessions.proofs.Parts.{GoodRoot, part-covered, part-legible}
 
 module _ {Table : Type 0} where
   -- flags say one forest at most
@@ -60,15 +59,17 @@ module _ {Table : Type 0} where
             one true = part-covered s t px py
             one false = omega arith
 
-        pub forest-pipeline : {ps : List (UnitPart Table)} → Every GoodPart ps → (t : Forest ps)
-            → Every (InPipeline cell) (forestRows same i t)
+        -- what each row of a good part's tree has, each row of the forest has
+        pub forest-every : {P : Row → Type 0}
+            → ((p : UnitPart Table) → GoodPart p → (t : Tree (p .kind) (p .root)) → Every P (rowsOf t))
+            → {ps : List (UnitPart Table)} → Every GoodPart ps → (t : Forest ps) → Every P (forestRows same i t)
         unfolding forestRows
-        forest-pipeline every-none no-tree = every-none
-        forest-pipeline (every-more {a = p} s ss) (a-tree t ts) =
-            every-join (one (same i (p .table))) (forest-pipeline ss ts)
+        forest-every of-part every-none no-tree = every-none
+        forest-every {P} of-part (every-more {a = p} s ss) (a-tree t ts) =
+            every-join (one (same i (p .table))) (forest-every of-part ss ts)
           where
-            one : (b : Bool) → Every (InPipeline cell) (cond b (rowsOf t) [])
-            one true = part-pipeline s t
+            one : (b : Bool) → Every P (cond b (rowsOf t) [])
+            one true = of-part p s t
             one false = every-none
 
       -- the rows of all tables, whatever rows follow in each, say the flags and the rows that follow

@@ -1,12 +1,13 @@
 -- The laws of coding trees, for the tree of one part.
-use Prim.Native.Nat.{ℕ, _+_, _*_, _≤_}
+use Prim.Native.Nat.{ℕ, _+_, _*_, _≤_, _<_}
 use mathlib.Core.Path.{_≡_, refl, sym, ap, _∙_}
 use mathlib.Core.Bool.{true}
 use mathlib.Core.List.{List, _++_}
-use mathlib.Core.Logic.{_⊎_}
+use native.Mathlib.Omega.{arith}
 use Rattle.sides.proofs.Bools.{clash}
 use Rattle.tree.specs.declared.Node.{Node}
 use Rattle.tree.specs.declared.Direction.{Direction}
+use Rattle.tree.specs.declared.Direction.the-variants.{Vertical}
 use Rattle.tree.specs.Kind.{Kind}
 use Rattle.tree.specs.Splits.{along}
 use Rattle.tree.specs.Children.{cornerInside}
@@ -14,17 +15,17 @@ use Rattle.tree.specs.Rows.{Row}
 use Rattle.tree.specs.Back.{backNode}
 use Rattle.tree.specs.Tree.{Tree, none, skip, node, flagsOf, rowsOf}
 use Rattle.laws.specs.Every.{Every}
-use Rattle.laws.specs.Geometry.{rectangle, copies}
+use Rattle.laws.specs.Geometry.{rectangle, copies, InOneCell, pipelineSide}
 use Rattle.laws.proofs.Directions.{corner}
-use Rattle.laws.proofs.Multiples.{Multiple, Fold}
+use Rattle.laws.proofs.Multiples.{Multiple}
 use Rattle.laws.proofs.Shape.{Shape}
 use Rattle.laws.proofs.Cover as cover
-use Rattle.laws.proofs.Pipeline.{in-pipeline}
+use Rattle.laws.proofs.Pipeline.{in-one, in-pipeline}
 use Rattle.laws.proofs.Turning.{TurningIsTree, kind-turning}
 use Rattle.sessions.specs.Samples.{InPipeline}
 
 -- What the laws ask of a kind and a root: smallest sides of 4 and more, the picture's sides, a square at a multiple of
--- its side, and pipeline units that are no smaller than it or have the side 64.
+-- its side, and pipeline units of R-4's side.
 pub record GoodRoot (width height cell : ℕ) (k : Kind) (n : Node) : Type 0 where
   pub leastCb : 4 ≤ k .limits .mincb
   pub leastQt : 4 ≤ k .limits .minqt
@@ -34,8 +35,7 @@ pub record GoodRoot (width height cell : ℕ) (k : Kind) (n : Node) : Type 0 whe
   pub square : n .w ≡ n .h
   pub fits : n .w + n .h + n .qt + n .mtt ≤ 256
   pub at : (e : Direction) → Multiple (along e n) (corner e n)
-  pub fold : Fold 4 cell
-  pub held : (n .w ≤ cell) ⊎ (cell ≡ 64)
+  pub pipeline : cell ≡ pipelineSide (n .w)
 
 module _ {width height cell : ℕ} {k : Kind} {n : Node} (s : GoodRoot width height cell k n) where
   pub part-covered : (t : Tree k n) (px py : ℕ)
@@ -43,7 +43,14 @@ module _ {width height cell : ℕ} {k : Kind} {n : Node} (s : GoodRoot width hei
   part-covered t px py = rw (← s .wide, ← s .high) (cover.covered k (s .leastCb) (s .leastQt) (s .shape) t px py)
 
   pub part-pipeline : (t : Tree k n) → Every (InPipeline cell) (rowsOf t)
-  part-pipeline t = in-pipeline k (s .leastCb) (s .leastQt) (s .shape) (s .square) (s .at) t cell (s .fold) (s .held)
+  part-pipeline t = rw (s .pipeline) (in-pipeline k (s .leastCb) (s .leastQt) (s .shape) (s .square) (s .at) t)
+
+  -- where pipeline units are smaller than 64 by 64, the root is one, and no row leaves it
+  pub part-inside : cell < 64 → (t : Tree k n) → Every (InOneCell cell) (rowsOf t)
+  part-inside small t =
+      let e = s .pipeline in
+      let own : cell ≡ n .w = omega arith in
+      rw own (in-one k (s .leastCb) (s .leastQt) (s .shape) (s .square) (s .at) t (n .w) (s .shape .side Vertical .fold) (omega arith))
 
   turning : cornerInside (k .limits) n ≡ true → TurningIsTree k n
   turning here = kind-turning k (s .leastCb) (s .leastQt) n (s .shape) here (s .fits)

@@ -1,5 +1,7 @@
 -- Which splits are open at a node: H.266 clauses 6.4.1 (quad), 6.4.2 (binary) and 6.4.3 (ternary).
 -- A direction names the cut: Horizontal cuts the height, Vertical the width. Document 01's BH is `Binary Horizontal`, its TV `Ternary Vertical`.
+-- The 64 of these clauses is the standard's, the same for every CTU side: which flags a stream has depends on it. The pipeline units of R-4
+-- (`pipelineSide`, laws/specs/Geometry.antt) are the board's: rows are measured by them, and no split is opened or closed.
 use Prim.Native.Nat.{ℕ, _+_, _*_, min}
 use mathlib.Core.Bool.{Bool, true, false, not, _&&_, _||_}
 use lib.Dec.{leb, ltb, eqb}
@@ -70,7 +72,7 @@ binaryNeeds l n d = ltb (l .mincb) (along d n) && leb (n .w) (l .maxbt) && leb (
 abbrev pub closedAcross : Limits → Node → Direction → Bool
 closedAcross l n d = outAcross d l n && pick d (not (bottomOut l n)) true
 
--- the first rule of 64-sample pipeline units: "BV, H > 64 and right out; BH, W > 64 and bottom out"
+-- the first rule with 64: "BV, H > 64 and right out; BH, W > 64 and bottom out"
 abbrev pub closedLarge : Limits → Node → Direction → Bool
 closedLarge l n d = ltb 64 (across d n) && outAlong d l n
 
@@ -82,7 +84,7 @@ closedCorner l n = rightOut l n && bottomOut l n && ltb (l .minqt) (n .w)
 abbrev pub closedMiddle : Node → Direction → Bool
 closedMiddle n d = ltb 0 (n .mtt) && eqb (n .part) 1 && parentTernary d (n .parent)
 
--- the second: "BV with W ≤ 64 and H > 64; BH with W > 64 and H ≤ 64"
+-- the second rule with 64: "BV with W ≤ 64 and H > 64; BH with W > 64 and H ≤ 64"
 abbrev pub closedNarrow : Node → Direction → Bool
 closedNarrow n d = leb (along d n) 64 && ltb 64 (across d n)
 
