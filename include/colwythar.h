@@ -34,6 +34,11 @@ extern "C" {
 #define COLWYTHAR_MAX_ROW_BYTES 8192
 #define COLWYTHAR_MAX_FLAGS 4094
 
+/* The side of the pipeline units, by the CTU side: the smaller of 64 and the CTU side. They are squares, laid side by side
+ * from (0, 0). Proved: each row lies inside one of them or consists of whole ones; with CTU side 32, no row leaves its
+ * own. */
+#define COLWYTHAR_PIPELINE_SIDE(ctu) ((ctu) < 64 ? (ctu) : 64)
+
 /* The numbers of an answer. Within a group the first that fails, in the order of the numbers, is answered; but 11 and 12
  * are met in the walk, whichever comes first, and the session's are tested in the order 22, 20, 21, before the flags. */
 #define COLWYTHAR_ACCEPTED 0

@@ -5,15 +5,13 @@ use std::io::{self, Write};
 
 use colwythar::{Row, Settings};
 
-/// The side of a pipeline unit: document 01's squares of 64 by 64, laid side by side from (0, 0).
-const PIPELINE: u32 = 64;
-
 /// The space between two pictures, in samples.
 const GAP: u32 = 8;
 
 /// A picture and the coding blocks of its units.
 pub struct Picture {
     ctu: u32,
+    pipeline_side: u32,
     width: u32,
     height: u32,
     /// The blocks, in the order in which they are drawn.
@@ -33,7 +31,8 @@ impl Picture {
     /// A picture without blocks. The settings are accepted ones.
     pub fn new(settings: &Settings) -> Self {
         let Settings { ctu, width, height, .. } = *settings;
-        Self { ctu, width, height, blocks: Vec::new() }
+        let pipeline_side = settings.pipeline_side();
+        Self { ctu, pipeline_side, width, height, blocks: Vec::new() }
     }
 }
 
@@ -95,12 +94,12 @@ fn style(scale: u32) -> String {
 }
 
 fn write_picture(picture: &Picture, out: &mut dyn Write) -> io::Result<()> {
-    let Picture { ctu, width, height, ref blocks } = *picture;
+    let Picture { ctu, pipeline_side, width, height, ref blocks } = *picture;
     writeln!(out, "<rect class=\"picture\" width=\"{width}\" height=\"{height}\"/>")?;
     for block in blocks {
         write_block(block, out)?;
     }
-    write_grid("pipeline", PIPELINE, (width, height), out)?;
+    write_grid("pipeline", pipeline_side, (width, height), out)?;
     write_grid("unit", ctu, (width, height), out)
 }
 

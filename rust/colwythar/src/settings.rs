@@ -40,6 +40,23 @@ impl Settings {
         [ctu, min_cb, min_qt, max_mtt, max_bt, max_tt, width, height]
     }
 
+    /// The side of the picture's pipeline units: the smaller of 64 and the CTU side.
+    ///
+    /// They are squares, laid side by side from (0, 0). Each row lies inside one of them or consists
+    /// of whole ones; with CTU side 32, no row leaves its own. Nothing is checked here.
+    ///
+    /// ```
+    /// use colwythar::Settings;
+    ///
+    /// let small = Settings::from([32, 4, 8, 3, 32, 32, 1920, 1080]);
+    /// assert_eq!(small.pipeline_side(), 32);
+    /// assert_eq!(Settings { ctu: 128, ..small }.pipeline_side(), 64);
+    /// ```
+    #[inline]
+    pub fn pipeline_side(&self) -> u32 {
+        self.ctu.min(64)
+    }
+
     /// How many units the picture has; one at the right or bottom edge counts as one.
     ///
     /// # Errors

@@ -1,7 +1,7 @@
 //! One call on all three sides.
 
 use colwythar::raw;
-use h266::{Answer, Settings};
+use h266::{Answer, Row, Settings};
 use samples::Rng;
 
 use crate::lent::Lent;
@@ -40,7 +40,9 @@ impl Engine {
         let tuned = |lent: &mut [u8]| tuned::read_unit(s, at, flags, lent);
         let input = || format!("read {s:?}, unit {at}, flags {flags:?}, room {room}");
         let call = Call { entry: Entry::Read, size: 8, room };
-        call.make(&mut self.tally, rng, (engine, h266, tuned), input)
+        let outcome = call.make(&mut self.tally, rng, (engine, h266, tuned), input);
+        assert_in_pipeline(s, &outcome.written);
+        outcome
     }
 
     /// Rows to flags, into a buffer of `room` bytes.
@@ -90,7 +92,20 @@ impl Engine {
         assert_eq!([second, third], [first; 2], "the address due after {}", input());
         assert_eq!(first, *due + u64::from(outcome.number == 0), "after {}", input());
         *due = first;
+        assert_in_pipeline(s, &outcome.written);
         outcome
+    }
+}
+
+/// Each row lies inside one pipeline unit or consists of whole ones; with a CTU side below 64, no
+/// row leaves its own.
+fn assert_in_pipeline(settings: &Settings, rows: &[u8]) {
+    let side = h266::pipeline_side(settings);
+    assert_eq!(colwythar::Settings::from(*settings).pipeline_side(), side);
+    for bytes in rows.chunks_exact(8) {
+        let row = Row::from_bytes(bytes.try_into().expect("8 bytes"));
+        let kept = if side < 64 { row.pipeline_units(side) == 1 } else { row.is_in_pipeline(side) };
+        assert!(kept, "{row:?} leaves its pipeline unit of {side}: {settings:?}");
     }
 }
 

@@ -27,6 +27,15 @@ fn every_block_and_both_grids_are_drawn() {
     assert!(svg.contains("<title>unit 0: 64 by 128 at 64, 0; QT depth 0, MTT depth 1</title>"));
 }
 
+/// pipeline units have the CTU side where it is below 64.
+#[test]
+fn pipeline_units_of_a_small_unit() {
+    let svg = draw("picture 32 4 8 3 32 32 64 40\nunit 0: 0\n");
+    let grid = "M0 0H64V40H0ZM32 0V40M0 32H64";
+    assert!(svg.contains(&format!("class=\"pipeline\" d=\"{grid}\"")));
+    assert!(svg.contains(&format!("class=\"unit\" d=\"{grid}\"")));
+}
+
 #[test]
 fn deeper_blocks_are_darker() {
     let svg = draw("picture 64 4 8 3 32 32 64 64\nunit 0: 1 1 0 1 0 0 0 0 0 0 0\n");
