@@ -1,5 +1,5 @@
-//! The drawing: one rectangle a coding block, darker the deeper, over the grids of units and of
-//! pipeline units.
+//! The drawing: one rectangle a coding block, darker the deeper, and over them the grids of units
+//! and, dashed, of pipeline units.
 
 use std::io::{self, Write};
 
@@ -99,8 +99,9 @@ fn write_picture(picture: &Picture, out: &mut dyn Write) -> io::Result<()> {
     for block in blocks {
         write_block(block, out)?;
     }
-    write_grid("pipeline", pipeline_side, (width, height), out)?;
-    write_grid("unit", ctu, (width, height), out)
+    write_grid("unit", ctu, (width, height), out)?;
+    // over the units' lines: the dashes show where both grids have a line
+    write_grid("pipeline", pipeline_side, (width, height), out)
 }
 
 fn write_block(block: &Block, out: &mut dyn Write) -> io::Result<()> {
