@@ -33,7 +33,11 @@ use Rattle.laws.proofs.Cells.{InOne, larger-fold, small-in-one, one-kid
 fold-64 : Fold 4 64
 fold-64 = record { power = 4; is = refl }
 
--- R-4's side: up to 64 the unit's own, from 64 on 64
+-- ---- R-4's side: for each CTU side, computed; and in general: up to 64 the unit's own, from 64 on 64
+
+pub pipeline-sides : (pipelineSide 32 ≡ 32) × (pipelineSide 64 ≡ 64) × (pipelineSide 128 ≡ 64)
+pipeline-sides = (refl, refl, refl)
+
 pub side-to-64 : (side : ℕ) → side ≤ 64 → pipelineSide side ≡ side
 side-to-64 side h = omega arith
 

@@ -23,7 +23,7 @@ inUnits square width height [] px py = false
 inUnits square width height (u ∷ us) px py =
     (inSquare (square u) px py && isSample width height px py) || inUnits square width height us px py
 
--- "Pipeline units are squares of 64 by 64, laid side by side from (0, 0)", here of any side: a row lies inside one or
--- consists of whole ones
+-- "Pipeline units are squares of 64 by 64, laid side by side from (0, 0)", here of any side (R-4's is `pipelineSide`): a
+-- row lies inside one or consists of whole ones
 abbrev pub InPipeline : (side : ℕ) → Row → Type 0
 InPipeline side r = InOneCell side r ⊎ OfWholeCells side r
