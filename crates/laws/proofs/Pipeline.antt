@@ -17,7 +17,7 @@ use Rattle.tree.specs.Splits.{along, across, closedNarrow, rightsOf, allows}
 use Rattle.tree.specs.Children.{children}
 use Rattle.tree.specs.Rows.{rowOf}
 use Rattle.tree.specs.Tree.{Tree, rowsOf}
-use Rattle.laws.specs.Geometry.{InOneCell, OfWholeCells, pipelineSide}
+use Rattle.laws.specs.Geometry.{InOneCell, InPipeline, pipelineSide}
 use Rattle.laws.specs.Every.{Every, every-none, every-more}
 use Rattle.laws.proofs.Leaves.{leaf-start, leaf-side}
 use Rattle.laws.proofs.EveryRow.{every-row}
@@ -108,7 +108,7 @@ module _ (k : Kind) (cb : 4 ≤ k .limits .mincb) (qt : 4 ≤ k .limits .minqt) 
       }))
       go (no long) = every-map (λ c. inl) (one-kids k cb qt 64 (omega arith) n (whole-one n w (omega arith) (omega arith)) d ok)
 
-  placed-leaf : (n : Node) → Placed n → InOneCell 64 (rowOf n) ⊎ OfWholeCells 64 (rowOf n)
+  placed-leaf : (n : Node) → Placed n → InPipeline 64 (rowOf n)
   placed-leaf n (inl i) = inl (one-leaf k cb qt 64 (omega arith) n i)
   placed-leaf n (inr w) = inr (record {
     left = rw (leaf-start n Vertical) (at Vertical);
@@ -142,13 +142,13 @@ module _ (k : Kind) (cb : 4 ≤ k .limits .mincb) (qt : 4 ≤ k .limits .minqt) 
     in-one c f le = let l = fold-least f in in-one-cell k cb qt c (omega arith) (small-in-one f sh at (both-sides n le (omega arith))) t
 
     -- in cells of 64
-    in-64 : Every (λ r. InOneCell 64 r ⊎ OfWholeCells 64 r) (rowsOf t)
+    in-64 : Every (InPipeline 64) (rowsOf t)
     in-64 = every-row k placed-kids (λ n p h. placed-leaf n p) t (every-more (root-placed (decLt 64 (n .w))) every-none)
 
     -- so in pipeline units, of R-4's side
-    pub in-pipeline : Every (λ r. InOneCell (pipelineSide (n .w)) r ⊎ OfWholeCells (pipelineSide (n .w)) r) (rowsOf t)
+    pub in-pipeline : Every (InPipeline (pipelineSide (n .w))) (rowsOf t)
     in-pipeline = go (decLt 64 (n .w))
       where
-        go : Dec (64 < n .w) → Every (λ r. InOneCell (pipelineSide (n .w)) r ⊎ OfWholeCells (pipelineSide (n .w)) r) (rowsOf t)
+        go : Dec (64 < n .w) → Every (InPipeline (pipelineSide (n .w))) (rowsOf t)
         go (yes h) = rw (side-from-64 (n .w) (omega arith)) in-64
         go (no h) = rw (side-to-64 (n .w) (omega arith)) (every-map (λ r. inl) (in-one (n .w) (sh .side Vertical .fold) (omega arith)))

@@ -3,6 +3,7 @@ use Prim.Native.Nat.{ℕ, _+_, _-_, _*_, _/_, _%_, _^_, _≤_, _<_, min}
 use mathlib.Core.Path.{_≡_}
 use mathlib.Core.Bool.{_&&_}
 use mathlib.Core.List.{List, [], _∷_}
+use mathlib.Core.Logic.{_⊎_}
 use lib.Dec.{leb, ltb}
 use Rattle.tree.specs.Splits.{bit}
 use Rattle.tree.specs.Rows.{Row}
@@ -41,8 +42,14 @@ pub record OfWholeCells (side : ℕ) (r : Row) : Type 0 where
   pub wide : 2 ^ r .ew % side ≡ 0
   pub high : 2 ^ r .eh % side ≡ 0
 
+-- "Pipeline units are squares of 64 by 64, laid side by side from (0, 0)", here cells of any side: a row lies inside one
+-- or consists of whole ones
+abbrev pub InPipeline : (side : ℕ) → Row → Type 0
+InPipeline side r = InOneCell side r ⊎ OfWholeCells side r
+
 -- R-4: the side of the pipeline units, in which the board holds the samples, by the CTU side: "the smaller of 64 and the
--- CTU side". No split and no flag depends on it: the 64 of clauses 6.4.1 to 6.4.3 is another one (tree/specs/Splits.antt).
+-- CTU side". No setting, split or flag depends on it: the 64 of the settings' ranges and of clauses 6.4.1 to 6.4.3 is the
+-- standard's (tree/specs/Splits.antt).
 abbrev pub pipelineSide : (ctu : ℕ) → ℕ
 pipelineSide ctu = min 64 ctu
 

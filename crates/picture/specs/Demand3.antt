@@ -8,9 +8,8 @@ use lib.ListN.{length}
 use Rattle.settings.specs.declared.Settings.{Settings}
 use Rattle.settings.specs.Units.{unitCount, squareAt}
 use Rattle.tree.specs.Splits.{bit}
-use Rattle.tree.specs.Rows.{Row}
 use Rattle.laws.specs.Every.{Every}
-use Rattle.laws.specs.Geometry.{copies, pipelineSide}
+use Rattle.laws.specs.Geometry.{copies, InPipeline, pipelineSide}
 use Rattle.unit.specs.Answers.{accepted}
 use Rattle.unit.specs.Writer.{writeFlags}
 use Rattle.sessions.specs.Samples as samples
@@ -31,10 +30,6 @@ inUnits s us px py = samples.inUnits (λ u. squareAt s (u .address)) (s .width) 
 
 -- ---- the claim
 
--- a row lies inside one pipeline unit or consists of whole ones
-abbrev pub InPipeline : Settings → Row → Type 0
-InPipeline s r = samples.InPipeline (pipelineSide (s .ctu)) r
-
 -- turning a unit's rows back into any buffer that is long enough answers the number of its flags, and the buffer then
 -- begins with exactly them, the rest untouched
 abbrev pub TurnsBack : Settings → Taken → Type 0
@@ -52,7 +47,7 @@ pub record After (s : Settings) (t : Session) (calls : List Call) : Type 0 where
       → inUnits s (acceptedIn t calls) px py ≡ inPicture s px py
   -- "Each row lies inside one 64 by 64 pipeline unit or consists of whole ones"; R-4: "Where 64 by 64 stood, that side",
   -- the smaller of 64 and the CTU side, "stands from now on"
-  pub pipeline : Every (InPipeline s) (joined (acceptedIn t calls))
+  pub pipeline : Every (InPipeline (pipelineSide (s .ctu))) (joined (acceptedIn t calls))
   -- "For every accepted unit, turning its rows back into any buffer that is long enough answers the number of the flags
   -- accepted for it, and the buffer then begins with exactly these flags"
   pub back : Every (TurnsBack s) (acceptedIn t calls)

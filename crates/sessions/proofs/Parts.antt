@@ -15,14 +15,13 @@ use Rattle.tree.specs.Rows.{Row}
 use Rattle.tree.specs.Back.{backNode}
 use Rattle.tree.specs.Tree.{Tree, none, skip, node, flagsOf, rowsOf}
 use Rattle.laws.specs.Every.{Every}
-use Rattle.laws.specs.Geometry.{rectangle, copies, InOneCell, pipelineSide}
+use Rattle.laws.specs.Geometry.{rectangle, copies, InOneCell, InPipeline, pipelineSide}
 use Rattle.laws.proofs.Directions.{corner}
 use Rattle.laws.proofs.Multiples.{Multiple}
 use Rattle.laws.proofs.Shape.{Shape}
 use Rattle.laws.proofs.Cover as cover
 use Rattle.laws.proofs.Pipeline.{in-one, in-pipeline}
 use Rattle.laws.proofs.Turning.{TurningIsTree, kind-turning}
-use Rattle.sessions.specs.Samples.{InPipeline}
 
 -- What the laws ask of a kind and a root: smallest sides of 4 and more, the picture's sides, a square at a multiple of
 -- its side, and pipeline units of R-4's side.

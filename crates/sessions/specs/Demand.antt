@@ -8,7 +8,7 @@ use lib.ListN.{length}
 use Rattle.tree.specs.Splits.{bit}
 use Rattle.tree.specs.Rows.{Row}
 use Rattle.laws.specs.Every.{Every}
-use Rattle.laws.specs.Geometry.{copies}
+use Rattle.laws.specs.Geometry.{copies, InPipeline}
 use Rattle.sessions.specs.Lists as lists
 use Rattle.sessions.specs.Samples as samples
 use Rattle.sessions.specs.Coding.{Coding}
@@ -45,7 +45,7 @@ module _ (g : Coding) where
     pub complete : length (acceptedIn t calls) ≡ g .count → (px py : ℕ)
         → inUnits (acceptedIn t calls) px py ≡ inPicture px py
     -- each row lies inside one pipeline unit or consists of whole ones
-    pub pipeline : (i : g .Table) → Every (samples.InPipeline (g .cell)) (joined i (acceptedIn t calls))
+    pub pipeline : (i : g .Table) → Every (InPipeline (g .cell)) (joined i (acceptedIn t calls))
     -- the rows of every unit accepted, turned back into any buffer that is long enough, give its flags
     pub back : Every (g .TurnsBack) (acceptedIn t calls)
     -- two lists have equal joined tables, in each of a unit's tables, exactly when they had equally many units

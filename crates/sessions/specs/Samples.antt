@@ -1,12 +1,9 @@
--- The samples of a picture and of its units, and its pipeline units.
+-- The samples of a picture and of its units.
 use Prim.Native.Nat.{ℕ, _+_}
 use mathlib.Core.Bool.{Bool, false, _&&_, _||_}
 use mathlib.Core.List.{List, [], _∷_}
-use mathlib.Core.Logic.{_⊎_}
 use lib.Dec.{leb, ltb}
 use Rattle.settings.specs.declared.Square.{Square}
-use Rattle.tree.specs.Rows.{Row}
-use Rattle.laws.specs.Geometry.{InOneCell, OfWholeCells}
 
 -- whether (px, py) lies in a square
 abbrev pub inSquare : Square → ℕ → ℕ → Bool
@@ -22,8 +19,3 @@ unfoldable pub inUnits : {Taken : Type 0} (square : Taken → Square) (width hei
 inUnits square width height [] px py = false
 inUnits square width height (u ∷ us) px py =
     (inSquare (square u) px py && isSample width height px py) || inUnits square width height us px py
-
--- "Pipeline units are squares of 64 by 64, laid side by side from (0, 0)", here of any side (R-4's is `pipelineSide`): a
--- row lies inside one or consists of whole ones
-abbrev pub InPipeline : (side : ℕ) → Row → Type 0
-InPipeline side r = InOneCell side r ⊎ OfWholeCells side r

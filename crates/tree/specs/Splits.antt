@@ -1,7 +1,8 @@
 -- Which splits are open at a node: H.266 clauses 6.4.1 (quad), 6.4.2 (binary) and 6.4.3 (ternary).
 -- A direction names the cut: Horizontal cuts the height, Vertical the width. Document 01's BH is `Binary Horizontal`, its TV `Ternary Vertical`.
--- The 64 of these clauses is the standard's, the same for every CTU side: which flags a stream has depends on it. The pipeline units of R-4
--- (`pipelineSide`, laws/specs/Geometry.antt) are the board's: rows are measured by them, and no split is opened or closed.
+-- The 64 of these clauses is the standard's, the same for every CTU side: which flags a stream has depends on it. The
+-- pipeline units of R-4 (`pipelineSide`, laws/specs/Geometry.antt) are the board's: rows are measured by them, and no
+-- split is opened or closed.
 use Prim.Native.Nat.{ℕ, _+_, _*_, min}
 use mathlib.Core.Bool.{Bool, true, false, not, _&&_, _||_}
 use lib.Dec.{leb, ltb, eqb}
