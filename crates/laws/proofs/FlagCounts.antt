@@ -8,7 +8,7 @@ use lib.Dec.{leb, ltb}
 use borrow.Author.Tests.{ltb-true, leb-true, lt-ltb, le-ltb}
 use native.Mathlib.Omega.{arith}
 use native.Mathlib.Nat.{mul-le-mul-left}
-use Rattle.sides.proofs.Bools.{clash, and-left, and-right, and-intro, and-late, same, forBool, at-bool}
+use Rattle.sides.proofs.Bools.{and-left, and-right, and-intro, and-late, same, forBool, at-bool}
 use Rattle.tree.specs.declared.Limits.{Limits}
 use Rattle.tree.specs.declared.Node.{Node}
 use Rattle.tree.specs.declared.Share.{Share}
@@ -22,7 +22,7 @@ use Rattle.tree.specs.Flags.{flagsFor}
 use Rattle.tree.specs.Children.{shares, child, childMtt, childrenFrom, children, cornerInside}
 use Rattle.tree.specs.Rows.{ownRows}
 use Rattle.tree.specs.Tree.{Trees, Tree, none, skip, node, flagsOf, rowsOf}
-use Rattle.laws.proofs.Tests.{same-self}
+use Rattle.laws.proofs.Tests.{same-self, implies, implies-intro, implies-use}
 use Rattle.laws.specs.Every.{Every, every-none, every-more}
 use Rattle.laws.proofs.Picture.{starts-in, not-out}
 use Rattle.laws.proofs.Directions.{corner, extent}
@@ -53,7 +53,7 @@ partSpares s right bottom [] = 0
 partSpares s right bottom (p ∷ ps) = bit (stays right bottom p) s + partSpares s right bottom ps
 
 -- a decision's parts are below a cut; four times its own rows
-abbrev cuts : Decision → Bool
+abbrev pub cuts : Decision → Bool
 cuts Leaf = false
 cuts Quad = false
 cuts (Binary d) = true
@@ -66,17 +66,6 @@ fourRows (Binary d) = 0
 fourRows (Ternary d) = 0
 
 -- ---- one node: a test of all rights
-
-abbrev implies : Bool → Bool → Bool
-implies a b = not a || b
-
-implies-intro : (a b : Bool) → (a ≡ true → b ≡ true) → implies a b ≡ true
-implies-intro true b h = h refl
-implies-intro false b h = refl
-
-implies-use : (a b : Bool) → implies a b ≡ true → a ≡ true → b ≡ true
-implies-use true b h e = h
-implies-use false b h e = clash e refl
 
 -- what the rules say of the rights of a node that is out right or bottom, and below a cut
 abbrev lawfulCut : Bool → Bool → Rights → Direction → Bool

@@ -6,6 +6,7 @@ pub mod Backs
 pub mod Bounds
 pub mod Bytes
 pub mod Cells
+pub mod Counts
 pub mod Cover
 pub mod Cuts
 pub mod Decisions
@@ -15,6 +16,7 @@ pub mod Edge
 pub mod Every
 pub mod EveryRow
 pub mod First
+pub mod FlagAreas
 pub mod FlagCounts
 pub mod Flags
 pub mod Grows
@@ -42,6 +44,7 @@ pub mod Rights
 pub mod Runs
 pub mod SameRow
 pub mod Shape
+pub mod Sides
 pub mod Sizes
 pub mod Slabs
 pub mod Steps

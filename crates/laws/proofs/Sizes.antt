@@ -1,4 +1,4 @@
--- How many samples the rows of a coding tree have, and so how many rows and flags it has at most.
+-- How many samples the rows of a coding tree have, and so how many rows it has at most.
 use Prim.Native.Nat.{ℕ, _+_, _-_, _*_, _≤_, min}
 use mathlib.Core.Path.{_≡_, refl, ap₂, _∙_}
 use mathlib.Core.Bool.{true}
@@ -11,9 +11,8 @@ use Rattle.tree.specs.declared.Direction.{Direction}
 use Rattle.tree.specs.declared.Direction.the-variants.{Horizontal, Vertical}
 use Rattle.tree.specs.Kind.{Kind}
 use Rattle.tree.specs.Splits.{inside}
-use Rattle.tree.specs.Children.{cornerInside}
 use Rattle.tree.specs.Rows.{Row}
-use Rattle.tree.specs.Tree.{Tree, flagsOf, rowsOf}
+use Rattle.tree.specs.Tree.{Tree, rowsOf}
 use Rattle.laws.specs.Geometry.{areaOf, clip}
 use Rattle.laws.specs.Every.{Every, every-none, every-more}
 use Rattle.laws.proofs.Picture.{inside-end}
@@ -23,7 +22,6 @@ use Rattle.laws.proofs.Directions.{extent}
 use Rattle.laws.proofs.Multiples.{fold-least}
 use Rattle.laws.proofs.Shape.{Shape, shape-kids}
 use Rattle.laws.proofs.Measure.{UpTo, ofRows, measured}
-use Rattle.laws.proofs.FlagCounts.{flags-four-rows}
 
 -- ---- samples
 
@@ -78,7 +76,3 @@ module _ (k : Kind) {n : Node} (cb : 4 ≤ k .limits .mincb) (qt : 4 ≤ k .limi
       let v : clip (k .limits .height) (n .y) (n .h) ≤ n .h = omega arith in
       let c = mul-le-mul w v in
       omega arith
-
-  -- so 4,094 flags at most
-  pub flags-fit : cornerInside (k .limits) n ≡ true → 4 * (length (flagsOf t) + 2) ≤ n .w * n .h
-  flags-fit here = let a = flags-four-rows k cb qt sh here t in let b = rows-fit in omega arith

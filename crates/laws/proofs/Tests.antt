@@ -1,6 +1,6 @@
 -- General laws of Boolean tests that `sides` does not have.
 use mathlib.Core.Path.{_≡_, refl}
-use mathlib.Core.Bool.{Bool, true, false, _&&_, _||_}
+use mathlib.Core.Bool.{Bool, true, false, not, _&&_, _||_}
 use Rattle.sides.proofs.Bools.{clash, same}
 
 -- from equations in scope that clash, `cc` proves this one
@@ -30,3 +30,16 @@ none-five true b c d e h = never (cc)
 pub fails : (a b : Bool) → (a ≡ true → b ≡ true) → b ≡ false → a ≡ false
 fails true b h e = clash (h refl) e
 fails false b h e = refl
+
+-- ---- one test implies another
+
+abbrev pub implies : Bool → Bool → Bool
+implies a b = not a || b
+
+pub implies-intro : (a b : Bool) → (a ≡ true → b ≡ true) → implies a b ≡ true
+implies-intro true b h = h refl
+implies-intro false b h = refl
+
+pub implies-use : (a b : Bool) → implies a b ≡ true → a ≡ true → b ≡ true
+implies-use true b h e = h
+implies-use false b h e = clash e refl

@@ -1,3 +1,4 @@
+pub mod Counts
 pub mod Every
 pub mod Geometry
 pub mod Reached

@@ -12,9 +12,10 @@ use Rattle.blocks.specs.Words.{rowWord}
 use Rattle.blocks.proofs.Words.{word-is}
 use Rattle.laws.proofs.Multiples.{fold-least}
 use Rattle.laws.proofs.Shape.{Shape}
+use Rattle.laws.proofs.Sides.{One, one-of}
 use Rattle.nodes.specs.Words.{nodeIn}
 use Rattle.nodes.specs.Stands.{Stands, word, keeps}
-use Rattle.nodes.proofs.Sides.{One, one-of, exponent-of}
+use Rattle.nodes.proofs.Sides.{exponent-of}
 use Rattle.nodes.proofs.MaskLaws.{bit-most, splits-small}
 
 -- ---- six numbers at their places in one

@@ -14,7 +14,8 @@ use Rattle.tree.specs.Kind.{luma}
 use Rattle.tree.specs.Splits.{rightOut, bottomOut, inside, closedMiddle, closedNarrow, binaryClosed, binaryOpen, ternaryOpen, Rights, rightsOf, openSplits}
 use Rattle.nodes.specs.Tables.{sideRights}
 use Rattle.nodes.specs.Stands.{keeps}
-use Rattle.nodes.proofs.Sides.{One, not-narrow}
+use Rattle.laws.proofs.Sides.{One}
+use Rattle.nodes.proofs.Sides.{not-narrow}
 use Rattle.nodes.proofs.MaskLaws.{both}
 use Rattle.nodes.proofs.Rules.{same-splits}
 

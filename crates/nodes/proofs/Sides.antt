@@ -1,4 +1,4 @@
--- The six sides that a node may have, one by one.
+-- What the code needs of the six sides that a node may have: exponents, and their masks in a table.
 use Prim.Native.Nat.{ℕ, zero, suc, _+_, _*_, _/_, _^_, _≤_, _<_}
 use mathlib.Core.Path.{_≡_, refl}
 use mathlib.Core.Bool.{false, not, _&&_}
@@ -12,29 +12,9 @@ use Rattle.sides.proofs.Bools.{and-no}
 use Rattle.sides.specs.Side.{exponent}
 use Rattle.tree.specs.declared.Limits.{Limits}
 use Rattle.tree.specs.declared.Direction.the-variants.{Horizontal, Vertical}
-use Rattle.laws.proofs.Shape.{Side, side-power}
+use Rattle.laws.proofs.Sides.{One, one-4, one-8, one-16, one-32, one-64, one-128}
 use Rattle.nodes.specs.Tables.{sideMask, tableOf}
 use Rattle.nodes.specs.Words.{fall}
-
-pub data One : ℕ → Type 0 where
-  one-4 : One 4
-  one-8 : One 8
-  one-16 : One 16
-  one-32 : One 32
-  one-64 : One 64
-  one-128 : One 128
-
-pub one-of : {n : ℕ} → Side n → One n
-one-of {n} s = go (s .fold .power) (s .fold .is) (side-power s)
-  where
-    go : (p : ℕ) → n ≡ 4 * 2 ^ p → p ≤ 5 → One n
-    go zero e h = rw e one-4
-    go (suc zero) e h = rw e one-8
-    go (suc (suc zero)) e h = rw e one-16
-    go (suc (suc (suc zero))) e h = rw e one-32
-    go (suc (suc (suc (suc zero)))) e h = rw e one-64
-    go (suc (suc (suc (suc (suc zero))))) e h = rw e one-128
-    go (suc (suc (suc (suc (suc (suc p)))))) e h = absurd (omega arith)
 
 pub one-least : {n : ℕ} → One n → 4 ≤ n
 one-least one-4 = omega arith

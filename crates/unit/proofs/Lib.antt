@@ -13,4 +13,6 @@ pub mod AcceptedTree
 pub mod RoundTrips
 pub mod UnitFaults
 pub mod Decided
+pub mod Sizes
 pub mod Bounds
+pub mod FlagBuffer

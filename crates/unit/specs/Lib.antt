@@ -8,3 +8,4 @@ pub mod Faults
 pub mod Demand2
 pub mod Bounds
 pub mod Edge
+pub mod FlagBuffer

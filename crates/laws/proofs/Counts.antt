@@ -1,0 +1,89 @@
+-- The number of a coding tree's flags, and how it grows with the open splits.
+use Prim.Native.Nat.{ℕ, _+_, _≤_}
+use mathlib.Core.Path.{_≡_, refl}
+use mathlib.Core.Bool.{Bool, true, false, _&&_, _||_}
+use mathlib.Core.List.{List, [], _∷_, _++_}
+use lib.ListN.{length, length-append}
+use native.Mathlib.Omega.{arith}
+use Rattle.sides.proofs.Bools.{and-left, and-right, and-intro, or-right}
+use Rattle.tree.specs.declared.Node.{Node}
+use Rattle.tree.specs.declared.Direction.{Direction}
+use Rattle.tree.specs.declared.Direction.the-variants.{Horizontal, Vertical}
+use Rattle.tree.specs.declared.Decision.{Decision}
+use Rattle.tree.specs.declared.Decision.the-variants.{Leaf, Quad, Binary, Ternary}
+use Rattle.tree.specs.Kind.{Kind}
+use Rattle.tree.specs.Splits.{bit, Rights, rightsOf, allows}
+use Rattle.tree.specs.Flags.{cutOpen, someCut, someOpen, splitThere, quadThere, verticalThere, binaryThere, flagByte, cutFlags, flagsFor}
+use Rattle.tree.specs.Tree.{Trees, none, skip, node, flagsOf}
+use Rattle.laws.specs.Counts.{flagsAt, flagCount}
+
+-- ---- it is the length of its flags
+
+byte-count : (there v : Bool) → length (flagByte there v) ≡ bit there 1
+byte-count true v = refl
+byte-count false v = refl
+
+module _ (r : Rights) where
+  two-count : (p q v w : Bool) → length (flagByte p v ++ flagByte q w) ≡ bit p 1 + bit q 1
+  two-count p q v w = rw (length-append (flagByte p v) (flagByte q w), byte-count p v, byte-count q w)
+
+  cut-flags : (d : Direction) (binary : Bool) → length (cutFlags r d binary) ≡ flagsAt r (Binary d)
+  cut-flags d binary =
+      rw (length-append (flagByte (splitThere r) true) _, length-append (flagByte (quadThere r) false) _, byte-count (splitThere r) true, byte-count (quadThere r) false, two-count (verticalThere r) (binaryThere r d)) (omega arith)
+
+  for-count : (d : Decision) → length (flagsFor r d) ≡ flagsAt r d
+  unfolding flagsFor
+  for-count Leaf = byte-count (splitThere r) false
+  for-count Quad = two-count (splitThere r) (quadThere r) true true
+  for-count (Binary d) = cut-flags d true
+  for-count (Ternary d) = cut-flags d false
+
+pub flag-count : {k : Kind} {ns : List Node} (t : Trees k ns) → length (flagsOf t) ≡ flagCount t
+unfolding flagsOf flagCount
+flag-count none = refl
+flag-count (skip out rest) = flag-count rest
+flag-count {k} (node {n = n} d here ok kids rest) =
+    rw (length-append (flagsFor (rightsOf k n) d) (flagsOf kids ++ flagsOf rest), length-append (flagsOf kids) (flagsOf rest), for-count (rightsOf k n) d, flag-count kids, flag-count rest)
+
+-- ---- the more splits are open, the more flags are present
+
+abbrev pub Grows : Bool → Bool → Type 0
+Grows a b = a ≡ true → b ≡ true
+
+bit-grows : (a b : Bool) → Grows a b → bit a 1 ≤ bit b 1
+bit-grows false b h = omega arith
+bit-grows true b h = rw (h refl) (omega arith)
+
+and-grows : (a b c d : Bool) → Grows a c → Grows b d → Grows (a && b) (c && d)
+and-grows a b c d f g h = and-intro c d (f (and-left a b h)) (g (and-right a b h))
+
+or-grows : (a b c d : Bool) → Grows a c → Grows b d → Grows (a || b) (c || d)
+or-grows true b c d f g h = rw (f refl)
+or-grows false b c d f g h = or-right c d (g h)
+
+module _ (r s : Rights) (grows : (d : Decision) → Grows (allows r d) (allows s d)) where
+  cut-grows : (d : Direction) → Grows (cutOpen r d) (cutOpen s d)
+  cut-grows d = or-grows _ _ _ _ (grows (Binary d)) (grows (Ternary d))
+
+  some-cut-grows : Grows (someCut r) (someCut s)
+  some-cut-grows = or-grows _ _ _ _ (cut-grows Horizontal) (cut-grows Vertical)
+
+  split-grows : Grows (r .within && someOpen r) (s .within && someOpen s)
+  split-grows = and-grows _ _ _ _ (grows Leaf) (or-grows _ _ _ _ (grows Quad) some-cut-grows)
+
+  quad-grows : Grows (r .quad && someCut r) (s .quad && someCut s)
+  quad-grows = and-grows _ _ _ _ (grows Quad) some-cut-grows
+
+  cut-count : (d : Direction) → flagsAt r (Binary d) ≤ flagsAt s (Binary d)
+  cut-count d =
+      let a = bit-grows _ _ split-grows in
+      let b = bit-grows _ _ quad-grows in
+      let c = bit-grows _ _ (and-grows _ _ _ _ (cut-grows Horizontal) (cut-grows Vertical)) in
+      let e = bit-grows _ _ (and-grows _ _ _ _ (grows (Binary d)) (grows (Ternary d))) in
+      omega arith
+
+  pub flags-grow : (d : Decision) → flagsAt r d ≤ flagsAt s d
+  flags-grow Leaf = bit-grows _ _ split-grows
+  flags-grow Quad = let a = bit-grows _ _ split-grows in let b = bit-grows _ _ quad-grows in omega arith
+  flags-grow (Binary d) = cut-count d
+  flags-grow (Ternary d) = cut-count d
