@@ -32,7 +32,16 @@ extern "C" {
 /* Limits, proved: no unit has more rows, row bytes or flags, so buffers of these lengths are never too short. */
 #define COLWYTHAR_MAX_ROWS 1024
 #define COLWYTHAR_MAX_ROW_BYTES 8192
-#define COLWYTHAR_MAX_FLAGS 4094
+#define COLWYTHAR_MAX_FLAGS 1786
+
+/* The most flags of a unit, by its CTU side: 110, 446 or 1786. Proved: no unit has more, and a unit of each CTU side has
+ * so many: 64 by 64, or 32 by 32, halved in turn down to blocks of 8 by 4, or four quarters of 64 by 64 that are. */
+#define COLWYTHAR_MAX_FLAGS_OF_CTU(ctu) ((ctu) == 32 ? 110 : (ctu) == 64 ? 446 : COLWYTHAR_MAX_FLAGS)
+
+/* The most flags of a unit of so many rows: 4 for each row, less 2; 0 for no rows, which no unit has. Proved: no unit has
+ * more, so a flag buffer of this length is never refused with 17; and for 1 to 64 rows a unit has so many: for one row a
+ * picture half as wide as its unit, for others a unit of 64 by 64 that is halved until it has so many blocks. */
+#define COLWYTHAR_MAX_FLAGS_OF_ROWS(rows) ((rows) ? 4 * (size_t)(rows) - 2 : 0)
 
 /* The side of the pipeline units, by the CTU side: the smaller of 64 and the CTU side. They are squares, laid side by side
  * from (0, 0). Proved: each row lies inside one of them or consists of whole ones; with CTU side 32, no row leaves its

@@ -2,7 +2,7 @@
 
 use std::io::{self, BufRead};
 
-use colwythar::{write_flags, Refusal, Row, Session, Settings};
+use colwythar::{write_flags, Refusal, Row, Session, Settings, MAX_FLAGS};
 
 use crate::table::Table;
 use crate::text::{scan, Line, Lines, Malformed, Reason, Subject, Text};
@@ -10,9 +10,6 @@ use crate::{Command, Complaint, Context, Place, Sum, Unit};
 
 /// A unit has at most 1,024 rows of 8 bytes.
 const ROW_BYTES: usize = 8 * 1024;
-
-/// A unit has at most 4,094 flags.
-const FLAGS: usize = 4094;
 
 /// Reading a file came to an end before the file did.
 #[derive(Debug)]
@@ -57,7 +54,7 @@ struct Reader<'a, 'b> {
     flags: Vec<u8>,
     /// What the engine writes to.
     engine_rows: Box<[u8; ROW_BYTES]>,
-    engine_flags: Box<[u8; FLAGS]>,
+    engine_flags: Box<[u8; MAX_FLAGS]>,
     /// Was there a unit line?
     unit_lines: bool,
     units: u64,
@@ -77,7 +74,7 @@ impl<'a, 'b> Reader<'a, 'b> {
             table: Table::default(),
             flags: Vec::new(),
             engine_rows: Box::new([0; ROW_BYTES]),
-            engine_flags: Box::new([0; FLAGS]),
+            engine_flags: Box::new([0; MAX_FLAGS]),
             unit_lines: false,
             units: 0,
             rows: 0,

@@ -42,6 +42,31 @@ pub use row::{rows, Row};
 pub use session::Session;
 pub use settings::Settings;
 
+/// No unit has more flags: 110 with CTU side 32, 446 with 64 and 1,786 with 128
+/// ([`Settings::max_flags`]).
+pub const MAX_FLAGS: usize = 1_786;
+
+/// The most flags of a unit with so many rows: 4 for each row, less 2; 0 for no rows, which no unit
+/// has.
+///
+/// A flag buffer of this length is never too short for [`write_flags`]; for 1 to 64 rows there are
+/// units that fill it. Document 02 asks for 6 for each row, less 4, which is never less.
+///
+/// ```
+/// use colwythar::{max_flags_of_rows, write_flags, Settings};
+///
+/// // A picture half as wide as its unit: one row, and two flags.
+/// let settings = Settings {
+///     ctu: 64, min_cb: 4, min_qt: 8, max_mtt: 3, max_bt: 64, max_tt: 32, width: 32, height: 64,
+/// };
+/// let mut flags = [7; max_flags_of_rows(1)];
+/// assert_eq!(write_flags(&settings, 0, &[0, 0, 0, 0, 5, 6, 0, 1], &mut flags), Ok(2));
+/// assert_eq!(flags, [0, 0]);
+/// ```
+pub const fn max_flags_of_rows(rows: usize) -> usize {
+    rows.saturating_mul(4).saturating_sub(2)
+}
+
 /// Reads one unit's flags, writes its rows and answers how many.
 ///
 /// A row takes 8 bytes; bytes of `rows` past the answer stay as they were.
@@ -74,7 +99,8 @@ pub fn read_unit(
 
 /// Writes the flags that give exactly these rows and answers how many.
 ///
-/// Bytes of `flags` past the answer stay as they were.
+/// Bytes of `flags` past the answer stay as they were. [`max_flags_of_rows`] and
+/// [`Settings::max_flags`] say how long `flags` must be at most.
 ///
 /// ```
 /// use colwythar::{write_flags, Settings};

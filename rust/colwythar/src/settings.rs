@@ -1,6 +1,6 @@
 //! The eight settings of a picture.
 
-use crate::{raw, Refusal};
+use crate::{raw, Refusal, MAX_FLAGS};
 
 /// The settings, in luma samples except `max_mtt`. Nothing is checked before a call.
 ///
@@ -55,6 +55,27 @@ impl Settings {
     #[inline]
     pub fn pipeline_side(&self) -> u32 {
         self.ctu.min(64)
+    }
+
+    /// The most flags of a unit: 110, 446 or 1,786, by the CTU side 32, 64 or 128.
+    ///
+    /// A flag buffer of this length is never too short, and a unit of each CTU side fills it.
+    /// Nothing is checked here.
+    ///
+    /// ```
+    /// use colwythar::{Settings, MAX_FLAGS};
+    ///
+    /// let small = Settings::from([32, 4, 8, 3, 32, 32, 1920, 1080]);
+    /// assert_eq!(small.max_flags(), 110);
+    /// assert_eq!(Settings { ctu: 128, ..small }.max_flags(), MAX_FLAGS);
+    /// ```
+    #[inline]
+    pub fn max_flags(&self) -> usize {
+        match self.ctu {
+            32 => 110,
+            64 => 446,
+            _ => MAX_FLAGS,
+        }
     }
 
     /// How many units the picture has; one at the right or bottom edge counts as one.

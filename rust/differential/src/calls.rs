@@ -1,5 +1,6 @@
 //! Random calls on single units.
 
+use colwythar::{max_flags_of_rows, MAX_FLAGS};
 use h266::{Params, Settings};
 use samples::{damage, settings, trees, Rng, Style};
 
@@ -7,9 +8,6 @@ use crate::Engine;
 
 /// As much as the rows or flags of any unit need.
 pub(crate) const ROOM: usize = 8_192;
-
-/// No unit has more flags.
-const MOST_FLAGS: usize = 4_094;
 
 /// A random unit of a picture, its flags, and what both directions take of room.
 struct Unit {
@@ -83,13 +81,16 @@ fn room(rng: &mut Rng, needed: usize) -> usize {
     }
 }
 
-/// Buffers that are too short, exact or longer.
+/// Buffers that are too short, exact, longer, or as long as is planned for so many rows.
 fn rooms(engine: &mut Engine, rng: &mut Rng, unit: &Unit) {
     let Unit { settings, address, flags, rows } = unit;
     let short = room(rng, rows.len());
     engine.read(rng, settings, *address, flags, short);
     let short = room(rng, flags.len());
     engine.write(rng, settings, *address, rows, short);
+    let planned = max_flags_of_rows(rows.len() / 8);
+    let back = engine.write(rng, settings, *address, rows, planned);
+    assert_eq!(back.number, 0, "a planned buffer is refused: {settings:?} {address} {rows:?}");
 }
 
 /// A tree from flags drawn at random, which knows no rules: there are more of them than any unit
@@ -97,7 +98,7 @@ fn rooms(engine: &mut Engine, rng: &mut Rng, unit: &Unit) {
 fn drawn_flags(engine: &mut Engine, rng: &mut Rng, unit: &Unit) {
     let Unit { settings, address, .. } = unit;
     let ones = rng.pick(&[10, 30, 50, 70, 90]);
-    let drawn: Vec<u8> = (0..MOST_FLAGS + 1).map(|_| u8::from(rng.percent(ones))).collect();
+    let drawn: Vec<u8> = (0..MAX_FLAGS + 1).map(|_| u8::from(rng.percent(ones))).collect();
     let over = engine.read(rng, settings, *address, &drawn, ROOM);
     assert_eq!(over.number, 13, "random flags do not run over: {settings:?} {address}");
     let flags = &drawn[..over.value as usize];

@@ -1,6 +1,6 @@
 //! One call on all three sides.
 
-use colwythar::raw;
+use colwythar::{max_flags_of_rows, raw};
 use h266::{Answer, Row, Settings};
 use samples::Rng;
 
@@ -41,7 +41,7 @@ impl Engine {
         let input = || format!("read {s:?}, unit {at}, flags {flags:?}, room {room}");
         let call = Call { entry: Entry::Read, size: 8, room };
         let outcome = call.make(&mut self.tally, rng, (engine, h266, tuned), input);
-        assert_in_pipeline(s, &outcome.written);
+        assert_read(s, flags, &outcome);
         outcome
     }
 
@@ -59,7 +59,11 @@ impl Engine {
         let tuned = |lent: &mut [u8]| tuned::write_flags(s, at, rows, lent);
         let input = || format!("write {s:?}, unit {at}, rows {rows:?}, room {room}");
         let call = Call { entry: Entry::Write, size: 1, room };
-        call.make(&mut self.tally, rng, (engine, h266, tuned), input)
+        let outcome = call.make(&mut self.tally, rng, (engine, h266, tuned), input);
+        if outcome.number == 0 || outcome.number == 17 {
+            assert_planned(s, rows.len() / 8, outcome.value as usize);
+        }
+        outcome
     }
 
     /// Opens a session, counts its units and answers the number. Where the settings are refused,
@@ -92,9 +96,25 @@ impl Engine {
         assert_eq!([second, third], [first; 2], "the address due after {}", input());
         assert_eq!(first, *due + u64::from(outcome.number == 0), "after {}", input());
         *due = first;
-        assert_in_pipeline(s, &outcome.written);
+        assert_read(s, flags, &outcome);
         outcome
     }
+}
+
+/// The rows of an accepted reading stay in pipeline units, and had no more flags than is planned.
+fn assert_read(settings: &Settings, flags: &[u8], outcome: &Outcome) {
+    assert_in_pipeline(settings, &outcome.written);
+    if outcome.number == 0 {
+        assert_planned(settings, outcome.value as usize, flags.len());
+    }
+}
+
+/// So many rows have no more flags than is planned for them, and than their CTU side has.
+fn assert_planned(settings: &Settings, rows: usize, flags: usize) {
+    assert!(flags + 4 <= 6 * rows, "{flags} flags of {rows} rows: {settings:?}");
+    assert!(flags <= max_flags_of_rows(rows), "{flags} flags of {rows} rows: {settings:?}");
+    let most = colwythar::Settings::from(*settings).max_flags();
+    assert!(flags <= most, "{flags} flags: {settings:?}");
 }
 
 /// Each row lies inside one pipeline unit or consists of whole ones; with a CTU side below 64, no

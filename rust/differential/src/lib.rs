@@ -3,7 +3,8 @@
 //!
 //! Each comparison makes the same call on all three sides, with equal buffers of random bytes
 //! between guard bytes, and asserts that the answers, the buffers, the guards and the session's
-//! address due are equal afterwards, and that the rows written stay in pipeline units. The calls
+//! address due are equal afterwards, that the rows written stay in pipeline units, and that
+//! there are no more flags than is planned. The calls
 //! come from random legal trees, damaged flags and tables, every width and height at the edges,
 //! broken settings, lent buffers of every kind of length, whole sessions, and small units in full.
 //!

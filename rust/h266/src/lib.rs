@@ -28,6 +28,7 @@ mod allowed;
 pub mod brute;
 pub mod check;
 mod join;
+mod most;
 mod node;
 mod params;
 mod pipeline;
@@ -39,6 +40,7 @@ mod split;
 mod write;
 
 pub use allowed::Allowed;
+pub use most::most_flags;
 pub use node::Node;
 pub use params::Params;
 pub use pipeline::pipeline_side;

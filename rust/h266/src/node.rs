@@ -3,7 +3,7 @@
 use crate::{Params, Row, Split};
 
 /// The arguments of one coding_tree( ) call, and how the parent was split.
-#[derive(Clone, Copy, Debug)]
+#[derive(Clone, Copy, Debug, PartialEq, Eq, Hash)]
 pub struct Node {
     /// Left edge.
     pub x0: u32,

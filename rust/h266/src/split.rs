@@ -1,7 +1,7 @@
 //! The five splits.
 
 /// How a node is split: SPLIT_QT, SPLIT_BT_HOR, SPLIT_BT_VER, SPLIT_TT_HOR or SPLIT_TT_VER.
-#[derive(Clone, Copy, Debug, PartialEq, Eq)]
+#[derive(Clone, Copy, Debug, PartialEq, Eq, Hash)]
 pub enum Split {
     /// Four quarters.
     Qt,

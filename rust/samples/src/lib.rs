@@ -17,6 +17,7 @@
 #![warn(missing_docs)]
 
 pub mod damage;
+pub mod longest;
 pub mod paper;
 mod rng;
 pub mod settings;

@@ -16,7 +16,7 @@ fn data_prints_what_is_stored() {
 
 #[test]
 fn samples_print_what_is_stored() {
-    assert_eq!(check_folder(&sample("")), (17, 17));
+    assert_eq!(check_folder(&sample("")), (18, 18));
 }
 
 /// Checks each text file of a folder. Answers how many there are, and how many runs were compared.

@@ -1,7 +1,9 @@
 //! The engine against `h266` and `tuned`: at least 200,000 calls on each, with fixed seeds.
 
+use colwythar::max_flags_of_rows;
 use differential::{calls, sessions, small, Engine, Entry};
 use h266::Params;
+use samples::longest::{self, Longest};
 use samples::Rng;
 
 /// Single units: legal, damaged, with every kind of buffer, with broken settings.
@@ -65,4 +67,32 @@ fn small_units_in_full() {
     println!("{units} units, {trees} trees\n{}", engine.tally);
     assert!(units >= 500 && trees >= 5_000, "{units} units, {trees} trees");
     assert!(engine.tally.calls() >= 20_000, "{}", engine.tally);
+}
+
+/// Read, and turned back: into a buffer that just holds the flags, and into one that is a byte
+/// shorter.
+fn assert_longest(engine: &mut Engine, rng: &mut Rng, unit: &Longest) {
+    let Longest { settings, flags, rows } = unit;
+    let read = engine.read(rng, settings, 0, flags, 8 * rows);
+    assert_eq!((read.number, read.value), (0, *rows as u64), "{unit:?}");
+    let back = engine.write(rng, settings, 0, &read.written, flags.len());
+    assert_eq!((back.number, &back.written), (0, flags), "{unit:?}");
+    let short = engine.write(rng, settings, 0, &read.written, flags.len() - 1);
+    assert_eq!((short.number, short.value), (17, flags.len() as u64), "{unit:?}");
+}
+
+/// Units that have as many flags as is planned for their rows, or for their CTU side.
+#[test]
+fn planned_flags_are_reached() {
+    let (mut engine, mut rng) = (Engine::default(), Rng::new(105));
+    for rows in 1..=64 {
+        let unit = longest::of_rows(rows);
+        assert_eq!(unit.flags.len(), max_flags_of_rows(rows));
+        assert_longest(&mut engine, &mut rng, &unit);
+    }
+    for (ctu, most) in [(32, 110), (64, 446), (128, 1786)] {
+        let unit = longest::of_ctu(ctu);
+        assert_eq!(unit.flags.len(), most);
+        assert_longest(&mut engine, &mut rng, &unit);
+    }
 }
