@@ -52,8 +52,8 @@ module _ (s : Settings) (a : ℕ) (h : unitRefusal s a ≡ 0) where
 
 pub flag-buffer : FlagBuffer
 flag-buffer s a h = record {
-  six = of-rows s a h 6 4 (λ t. let l = flags-rows s a h t in omega arith);
-  four = of-rows s a h 4 2 (flags-rows s a h);
+  six = of-rows s a h _ _ (λ t. let l = flags-rows s a h t in omega arith);
+  four = of-rows s a h _ _ (λ t. let l = flags-rows s a h t in omega arith);
   count = λ table small buffer flags e. let t = turns-exactly s a h .only table small buffer flags e in of-tree s a h (t .0) (t .1) (t .2);
   needed = λ table small buffer place e. let x = short-tree s a table small buffer place e in of-tree s a h (x .tree) (x .rows) (x .needs);
 }

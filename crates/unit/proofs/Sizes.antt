@@ -63,9 +63,9 @@ module _ (s : Settings) (a : ℕ) (h : unitRefusal s a ≡ 0) where
     flags-most = go (unit-taken s a h .0 .ctu)
       where
         go : (s .ctu ≡ 32) ⊎ ((s .ctu ≡ 64) ⊎ (s .ctu ≡ 128)) → length (flagsOf t) ≤ mostFlags (s .ctu)
-        go (inl e) = let f = of-side 32 e in let m : mostFlags (s .ctu) ≡ 110 = ap mostFlags e in omega arith
-        go (inr (inl e)) = let f = of-side 64 e in let m : mostFlags (s .ctu) ≡ 446 = ap mostFlags e in omega arith
-        go (inr (inr e)) = let f = of-side 128 e in let m : mostFlags (s .ctu) ≡ 1786 = ap mostFlags e in omega arith
+        go (inl e) = let f = of-side 32 e in let m = ap mostFlags e in omega arith
+        go (inr (inl e)) = let f = of-side 64 e in let m = ap mostFlags e in omega arith
+        go (inr (inr e)) = let f = of-side 128 e in let m = ap mostFlags e in omega arith
 
   -- the tree of an accepted reading
   pub read-tree : (flags buffer : List ℕ) (count : ℕ) → readUnit s a flags buffer .answer ≡ Accepted count
