@@ -28,7 +28,6 @@ mod allowed;
 pub mod brute;
 pub mod check;
 mod join;
-mod most;
 mod node;
 mod params;
 mod pipeline;
@@ -37,10 +36,10 @@ mod refusal;
 mod row;
 mod session;
 mod split;
+mod worth;
 mod write;
 
 pub use allowed::Allowed;
-pub use most::most_flags;
 pub use node::Node;
 pub use params::Params;
 pub use pipeline::pipeline_side;
@@ -49,6 +48,7 @@ pub use refusal::{Answer, Refusal};
 pub use row::Row;
 pub use session::{open, unit, unit_count};
 pub use split::Split;
+pub use worth::greatest_worth;
 pub use write::write_flags;
 
 /// The eight settings: CTU side, MinCb, MinQt, greatest multi-type depth, MaxBt, MaxTt, picture

@@ -1,7 +1,7 @@
 //! Tests of the second decoder; they need no engine.
 
 mod exhaustive;
-mod most;
 mod paper;
 mod pipeline;
 mod random;
+mod worth;

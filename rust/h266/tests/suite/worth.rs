@@ -1,7 +1,7 @@
 //! How many flags a unit can have: by its CTU side, and by its rows.
 
 use h266::brute::all_trees;
-use h266::{most_flags, read_unit, Params, Settings};
+use h266::{greatest_worth, read_unit, Params, Settings};
 
 const SIDES: [u32; 6] = [4, 8, 16, 32, 64, 128];
 
@@ -32,16 +32,17 @@ fn all_edges(ctu: u32) -> Vec<Settings> {
     pictures(ctu).flat_map(of).collect()
 }
 
-/// The greatest worth of a tree in any of these pictures.
-fn greatest(all: &[Settings], row: i32) -> i32 {
-    all.iter().map(|settings| most_flags(settings, 0, row).expect("a unit")).max().expect("some")
+/// The greatest worth of a tree in any of these pictures, for these worths of a flag and a row.
+fn greatest(all: &[Settings], (flag, row): (i32, i32)) -> i32 {
+    let worth = |settings| greatest_worth(settings, 0, flag, row).expect("a unit");
+    all.iter().map(worth).max().expect("some pictures")
 }
 
 #[test]
 fn by_the_ctu_side() {
     for (ctu, most) in [(32, 110), (64, 446), (128, 1786)] {
-        assert_eq!(greatest(&all_settings(ctu), 0), most, "CTU side {ctu}");
-        assert_eq!(greatest(&all_edges(ctu), 0), most, "CTU side {ctu}, at the edges");
+        assert_eq!(greatest(&all_settings(ctu), (1, 0)), most, "CTU side {ctu}");
+        assert_eq!(greatest(&all_edges(ctu), (1, 0)), most, "CTU side {ctu}, at the edges");
     }
 }
 
@@ -51,11 +52,24 @@ fn by_the_ctu_side() {
 fn by_the_rows() {
     for ctu in [32, 64, 128] {
         for all in [all_settings(ctu), all_edges(ctu)] {
-            assert!(greatest(&all, -4) <= -2, "CTU side {ctu}");
-            assert!(greatest(&all, -6) <= -4, "CTU side {ctu}");
+            assert!(greatest(&all, (1, -4)) <= -2, "CTU side {ctu}");
+            assert!(greatest(&all, (1, -6)) <= -4, "CTU side {ctu}");
         }
-        assert_eq!(greatest(&all_edges(ctu), -4), -2, "CTU side {ctu}, at the edges");
-        assert_eq!(greatest(&all_edges(ctu), -6), -4, "CTU side {ctu}, at the edges");
+        assert_eq!(greatest(&all_edges(ctu), (1, -4)), -2, "CTU side {ctu}, at the edges");
+        assert_eq!(greatest(&all_edges(ctu), (1, -6)), -4, "CTU side {ctu}, at the edges");
+    }
+}
+
+/// 4 flags for each row, less 2, are had by up to so many rows: of the trees with the most flags
+/// beside 4 for each row, that with the most rows.
+#[test]
+fn rows_with_the_most_flags() {
+    for (ctu, rows) in [(32, 16), (64, 64), (128, 64)] {
+        for all in [all_settings(ctu), all_edges(ctu)] {
+            let most = greatest(&all, (10_000, -39_999));
+            assert!(most <= rows - 20_000, "CTU side {ctu}");
+        }
+        assert_eq!(greatest(&all_edges(ctu), (10_000, -39_999)), rows - 20_000, "CTU side {ctu}");
     }
 }
 
@@ -67,12 +81,12 @@ fn as_among_all_trees() {
         let settings = [64, 8, 8, 2, 32, 16, width, height];
         let read = |flags: &[u8], rows: &mut [u8]| read_unit(&settings, 0, flags, rows);
         let Some(trees) = all_trees(2_000, read) else { continue };
-        for row in [0, -4, -6] {
+        for (flag, row) in [(1, 0), (1, -4), (3, -7)] {
             let worth = |(rows, flags): (&Vec<u8>, &Vec<u8>)| {
-                flags.len() as i32 + row * (rows.len() / 8) as i32
+                flag * flags.len() as i32 + row * (rows.len() / 8) as i32
             };
             let found = trees.iter().map(worth).max();
-            assert_eq!(most_flags(&settings, 0, row).ok(), found, "{settings:?}");
+            assert_eq!(greatest_worth(&settings, 0, flag, row).ok(), found, "{settings:?}");
         }
         units += 1;
     }

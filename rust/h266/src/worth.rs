@@ -1,31 +1,37 @@
-//! The most flags that a unit can have, found by search.
+//! How many flags a unit can have, alone and beside its rows, found by search.
 
 use std::collections::HashMap;
 
 use crate::check::unit_root;
 use crate::{Allowed, Node, Params, Refusal, Settings, Split};
 
-/// The greatest worth of a coding tree of this unit, where a flag is worth 1 and a row `row`.
+/// The greatest worth of a coding tree of this unit, where a flag is worth `flag` and a row `row`.
 ///
-/// With a row's worth 0 these are the most flags that the unit can have; with -4 it is by how much
+/// With 1 and 0 these are the most flags that the unit can have, with 1 and -4 it is by how much
 /// they can exceed 4 for each row. All trees are searched, equal nodes once.
 ///
 /// ```
 /// let settings = [64, 4, 8, 8, 64, 64, 64, 64];
-/// assert_eq!(h266::most_flags(&settings, 0, 0), Ok(446));
-/// assert_eq!(h266::most_flags(&settings, 0, -4), Ok(-2));
+/// assert_eq!(h266::greatest_worth(&settings, 0, 1, 0), Ok(446));
+/// assert_eq!(h266::greatest_worth(&settings, 0, 1, -4), Ok(-2));
 /// ```
 ///
 /// # Errors
 ///
 /// Refusals 1 to 10.
-pub fn most_flags(settings: &Settings, address: u64, row: i32) -> Result<i32, Refusal> {
+pub fn greatest_worth(
+    settings: &Settings,
+    address: u64,
+    flag: i32,
+    row: i32,
+) -> Result<i32, Refusal> {
     let (params, root) = unit_root(settings, address)?;
-    Ok(Search { params, row, found: HashMap::new() }.best(&root))
+    Ok(Search { params, flag, row, found: HashMap::new() }.best(&root))
 }
 
 struct Search {
     params: Params,
+    flag: i32,
     row: i32,
     found: HashMap<Node, i32>,
 }
@@ -40,12 +46,12 @@ impl Search {
         }
         let allowed = Allowed::of(&self.params, node);
         let split_cu_flag = i32::from(inside && allowed.any());
-        let leaf = inside.then_some(split_cu_flag + self.row);
-        let split = Split::ALL
-            .into_iter()
-            .filter(|&split| allowed.has(split))
-            .map(|split| split_cu_flag + later_flags(&allowed, split) + self.parts(node, split))
-            .max();
+        let leaf = inside.then_some(split_cu_flag * self.flag + self.row);
+        let worth = |split| {
+            let flags = split_cu_flag + later_flags(&allowed, split);
+            flags * self.flag + self.parts(node, split)
+        };
+        let split = Split::ALL.into_iter().filter(|&split| allowed.has(split)).map(worth).max();
         let best = leaf.max(split).expect("a leaf or a split");
         self.found.insert(key, best);
         best
