@@ -1,6 +1,6 @@
 -- The number of a coding tree's flags, and how it grows with the open splits.
 use Prim.Native.Nat.{ℕ, _+_, _≤_}
-use mathlib.Core.Path.{_≡_, refl}
+use mathlib.Core.Path.{_≡_, refl, ap, _∙_}
 use mathlib.Core.Bool.{Bool, true, false, _&&_, _||_}
 use mathlib.Core.List.{List, [], _∷_, _++_}
 use lib.ListN.{length, length-append}
@@ -12,7 +12,7 @@ use Rattle.tree.specs.declared.Direction.the-variants.{Horizontal, Vertical}
 use Rattle.tree.specs.declared.Decision.{Decision}
 use Rattle.tree.specs.declared.Decision.the-variants.{Leaf, Quad, Binary, Ternary}
 use Rattle.tree.specs.Kind.{Kind}
-use Rattle.tree.specs.Splits.{bit, Rights, rightsOf, allows}
+use Rattle.tree.specs.Splits.{pick, bit, Rights, rightsOf, allows}
 use Rattle.tree.specs.Flags.{cutOpen, someCut, someOpen, splitThere, quadThere, verticalThere, binaryThere, flagByte, cutFlags, flagsFor}
 use Rattle.tree.specs.Tree.{Trees, none, skip, node, flagsOf}
 use Rattle.laws.specs.Counts.{flagsAt, flagCount}
@@ -23,18 +23,19 @@ byte-count : (there v : Bool) → length (flagByte there v) ≡ bit there 1
 byte-count true v = refl
 byte-count false v = refl
 
-module _ (r : Rights) where
-  two-count : (p q v w : Bool) → length (flagByte p v ++ flagByte q w) ≡ bit p 1 + bit q 1
-  two-count p q v w = rw (length-append (flagByte p v) (flagByte q w), byte-count p v, byte-count q w)
+then-count : (there v : Bool) (flags : List ℕ) → length (flagByte there v ++ flags) ≡ bit there 1 + length flags
+then-count there v flags = length-append (flagByte there v) flags ∙ ap (λ n. n + length flags) (byte-count there v)
 
+module _ (r : Rights) where
   cut-flags : (d : Direction) (binary : Bool) → length (cutFlags r d binary) ≡ flagsAt r (Binary d)
   cut-flags d binary =
-      rw (length-append (flagByte (splitThere r) true) _, length-append (flagByte (quadThere r) false) _, byte-count (splitThere r) true, byte-count (quadThere r) false, two-count (verticalThere r) (binaryThere r d)) (omega arith)
+      rw (then-count (splitThere r) true, then-count (quadThere r) false, then-count (verticalThere r) (pick d false true), byte-count (binaryThere r d) binary)
+      (omega arith)
 
   for-count : (d : Decision) → length (flagsFor r d) ≡ flagsAt r d
   unfolding flagsFor
   for-count Leaf = byte-count (splitThere r) false
-  for-count Quad = two-count (splitThere r) (quadThere r) true true
+  for-count Quad = rw (then-count (splitThere r) true, byte-count (quadThere r) true)
   for-count (Binary d) = cut-flags d true
   for-count (Ternary d) = cut-flags d false
 
@@ -43,7 +44,8 @@ unfolding flagsOf flagCount
 flag-count none = refl
 flag-count (skip out rest) = flag-count rest
 flag-count {k} (node {n = n} d here ok kids rest) =
-    rw (length-append (flagsFor (rightsOf k n) d) (flagsOf kids ++ flagsOf rest), length-append (flagsOf kids) (flagsOf rest), for-count (rightsOf k n) d, flag-count kids, flag-count rest)
+    rw (length-append (flagsFor (rightsOf k n) d) (flagsOf kids ++ flagsOf rest), length-append (flagsOf kids) (flagsOf rest))
+    (rw (for-count (rightsOf k n) d, flag-count kids, flag-count rest))
 
 -- ---- the more splits are open, the more flags are present
 

@@ -30,8 +30,8 @@ use Rattle.laws.proofs.Sides.{One, one-of, forSides, at-side}
 use Rattle.laws.proofs.Tests.{implies, implies-use}
 
 -- Of a node: 4 times the flags, and the spare, are at most 7 for each cell of 4 by 4 samples. Where the node is split, the
--- spares of its parts pay for its own and for the flags of its decision. The spare is 12, 8 above all cuts, where a quad
--- flag may come, and otherwise for the smallest nodes and for sides of 128, which have fewer flags.
+-- spares of its parts pay for its own and for the flags of its decision. The spare is 12; it is 8 above all cuts, where a
+-- quad flag may come, and another one for nodes of one or two cells and for sides of 128, which have fewer flags.
 abbrev pub spare : ℕ → ℕ → Bool → ℕ
 spare w h cut =
     cond (eqb w 128 && eqb h 128) 24
@@ -87,11 +87,12 @@ skips w h cut = leb (16 * spare w h cut) (7 * (w * h))
 skip-test : forSides (λ w. forSides (λ h. forBool (skips w h))) ≡ true
 skip-test = refl
 
-at-node : (f : ℕ → ℕ → Bool → Bool) → forSides (λ w. forSides (λ h. forBool (f w h))) ≡ true → {n : Node} → Shape n → f (n .w) (n .h) (ltb 0 (n .mtt)) ≡ true
-at-node f h {n} sh =
-    at-bool (f (n .w) (n .h))
-    (at-side (λ h. forBool (f (n .w) h)) (at-side (λ w. forSides (λ h. forBool (f w h))) h (one-of (sh .side Vertical))) (one-of (sh .side Horizontal)))
-    (ltb 0 (n .mtt))
+at-node : (f : ℕ → ℕ → Bool → Bool) → forSides (λ w. forSides (λ h. forBool (f w h))) ≡ true → {n : Node} → Shape n
+    → f (n .w) (n .h) (ltb 0 (n .mtt)) ≡ true
+at-node f t {n} sh =
+    let a = at-side (λ w. forSides (λ h. forBool (f w h))) t (one-of (sh .side Vertical)) in
+    let b = at-side (λ h. forBool (f (n .w) h)) a (one-of (sh .side Horizontal)) in
+    at-bool (f (n .w) (n .h)) b (ltb 0 (n .mtt))
 
 module _ (k : Kind) (n : Node) (cb : 4 ≤ k .limits .mincb) (qt : 4 ≤ k .limits .minqt) (sh : Shape n) where
   abbrev bySides : Rights

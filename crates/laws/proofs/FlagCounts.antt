@@ -192,7 +192,3 @@ module _ (k : Kind) (cb : 4 ≤ k .limits .mincb) (qt : 4 ≤ k .limits .minqt) 
   module _ {n : Node} (sh : Shape n) (here : cornerInside (k .limits) n ≡ true) (t : Tree k n) where
     pub flags-four-rows : length (flagsOf t) + 2 ≤ 4 * length (rowsOf t)
     flags-four-rows = let h = flags-spare t (every-more sh every-none) in let s = rw here at h in omega arith
-
-    -- the bound of document 02, R-7
-    pub flags-of-rows : length (flagsOf t) + 4 ≤ 6 * length (rowsOf t)
-    flags-of-rows = let h = flags-four-rows in omega arith

@@ -1,5 +1,6 @@
 -- R-7, "How long must a flag buffer be?": how many flags the two calls read and write, by a unit's R rows, so that memory
--- can be planned before any picture arrives. By the CTU side: `Bounds` (Bounds.antt).
+-- can be planned before any picture arrives. By the CTU side: `Bounds` (Bounds.antt). The unit call on the due unit is this
+-- reading (`Demand1 .due-unit`, picture/specs/Demand1.antt).
 use Prim.Native.Nat.{ℕ, _+_, _*_, _≤_}
 use mathlib.Core.Path.{_≡_}
 use mathlib.Core.List.{List}
@@ -27,8 +28,8 @@ pub record FlagsOfRows (each less : ℕ) (s : Settings) (a : ℕ) : Type 0 where
   pub room : (rows : ℕ) (table : List ℕ) → Bytes table → length table ≡ 8 * rows → (buffer : List ℕ)
       → each * rows ≤ length buffer + less → (place : ℕ) → ¬ (writeFlags s a table buffer .answer ≡ Refused 17 place)
 
--- a number of flags is that of the coding tree that has the rows of a table: the length of its flags in coding order, and
--- the number that is counted at its nodes
+-- a number of flags is that of the coding tree that has the rows of a table (there is one: `TurnsExactly .unique`): the
+-- length of its flags in coding order, and the number that is counted at its nodes
 pub record FlagsOfTree (s : Settings) (a : ℕ) (table : List ℕ) (flags : ℕ) : Type 0 where
   pub tree : UnitTree s a
   pub rows : tableBytes (rowsOf tree) ≡ table
