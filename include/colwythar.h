@@ -34,13 +34,16 @@ extern "C" {
 #define COLWYTHAR_MAX_ROW_BYTES 8192
 #define COLWYTHAR_MAX_FLAGS 1786
 
-/* The most flags of a unit, by its CTU side: 110, 446 or 1786. Proved: no unit has more, and a unit of each CTU side has
- * so many: 64 by 64, or 32 by 32, halved in turn down to blocks of 8 by 4, or four quarters of 64 by 64 that are. */
+/* The most flags of a unit, by its CTU side 32, 64 or 128. Proved: no unit has more, and some unit has so many: one of 32 by
+ * 32 or 64 by 64, halved vertically and horizontally in turn down to blocks of 8 by 4, or four such quarters of 64 by 64
+ * (settings 32 4 8 6 32 32 32 32, 64 4 8 8 64 64 64 64, and 128 4 8 8 128 64 128 128). */
 #define COLWYTHAR_MAX_FLAGS_OF_CTU(ctu) ((ctu) == 32 ? 110 : (ctu) == 64 ? 446 : COLWYTHAR_MAX_FLAGS)
 
-/* The most flags of a unit of so many rows: 4 for each row, less 2; 0 for no rows, which no unit has. Proved: no unit has
- * more, so a flag buffer of this length is never refused with 17; and for 1 to 64 rows a unit has so many: for one row a
- * picture half as wide as its unit, for others a unit of 64 by 64 that is halved until it has so many blocks. */
+/* A bound on the flags of a unit of so many rows: 4 for each row, less 2; 0 for no rows, which no unit has. Proved: no unit
+ * of so many rows has more flags, so a flag buffer of this length is never refused with 17; and for 1 to 64 rows some unit
+ * has so many: for one row in a picture half as wide as the unit (settings 64 4 8 3 64 32 32 64, flags 0 0), for others one
+ * of 64 by 64 that is halved until it has so many blocks. From 65 rows on none has, which is found by search. Where the
+ * number by the CTU side is smaller, that is enough. */
 #define COLWYTHAR_MAX_FLAGS_OF_ROWS(rows) ((rows) ? 4 * (size_t)(rows) - 2 : 0)
 
 /* The side of the pipeline units, by the CTU side: the smaller of 64 and the CTU side. They are squares, laid side by side

@@ -45,8 +45,8 @@ at-below f (suc n) h i l = go (at-below f n (and-right (f n) _ h) i) (ℕ-discre
 abbrev unit64 : Settings
 unit64 = settings 64 4 8 8 64 64 64 64
 
-abbrev flagsOfRows : ℕ → List ℕ
-flagsOfRows rows = withQuad (halved (0 ∷ []) 6 rows)
+abbrev rowFlags : ℕ → List ℕ
+rowFlags rows = withQuad (halved (0 ∷ []) 6 rows)
 
 abbrev accepts : ℕ → Answer → Bool
 accepts rows (Accepted count) = eqb count rows
@@ -57,20 +57,20 @@ is-accepted rows (Accepted count) h = ap (λ n. Accepted n) (eqb-true count rows
 is-accepted rows (Refused number place) h = clash h refl
 
 abbrev answered : ℕ → Answer
-answered rows = readUnit unit64 0 (flagsOfRows rows) (replicate (8 * rows) 0) .answer
+answered rows = readUnit unit64 0 (rowFlags rows) (replicate (8 * rows) 0) .answer
 
 abbrev reads : ℕ → Bool
-reads more = accepts (2 + more) (answered (2 + more)) && eqb (length (flagsOfRows (2 + more))) (4 * (2 + more) - 2)
+reads more = accepts (2 + more) (answered (2 + more)) && eqb (length (rowFlags (2 + more))) (4 * (2 + more) - 2)
 
 reads-test : forBelow 63 reads ≡ true
 unfolding trailingZeros ones onesIn settingsRefusal unitsOver unitCount unitRefusal squareAt binaryClosed binaryOpen ternaryOpen rightsOf flagAt afterBinary afterVertical afterQuad afterSplit decide shares childQt childMtt childOffset child childrenFrom children cornerInside rowOf ownRows rowBytes tableBytes before goOn overAll enter walk deliver finishEnd noneAfter rowsFrom readTree readUnit halved
 reads-test = refl
 
-rows-read : (rows : ℕ) → 2 ≤ rows → rows ≤ 64 → Reads unit64 (flagsOfRows rows) rows (4 * rows - 2)
+rows-read : (rows : ℕ) → 2 ≤ rows → rows ≤ 64 → Reads unit64 (rowFlags rows) rows (4 * rows - 2)
 rows-read rows least most =
     let h = at-below reads 63 reads-test (rows - 2) (omega arith) in
     let e : 2 + (rows - 2) ≡ rows = omega arith in
-    subst (λ n. Reads unit64 (flagsOfRows n) n (4 * n - 2)) e
+    subst (λ n. Reads unit64 (rowFlags n) n (4 * n - 2)) e
     (record {
       accepted = is-accepted _ (answered (2 + (rows - 2))) (and-left _ _ h);
       many = eqb-true _ _ (and-right (accepts (2 + (rows - 2)) (answered (2 + (rows - 2)))) _ h);

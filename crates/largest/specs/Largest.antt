@@ -12,14 +12,15 @@ use Rattle.unit.specs.Reader.{readUnit}
 use Rattle.unit.specs.Bounds.{mostFlags}
 use Rattle.unit.specs.Cases.{settings}
 
--- the flags of the unit 0 are read as so many rows, and there are so many of them
+-- flags of the unit 0 are accepted with the number of rows `rows`, and their own number is `number`
 pub record Reads (s : Settings) (flags : List ℕ) (rows number : ℕ) : Type 0 where
   pub accepted : readUnit s 0 flags (replicate (8 * rows) 0) .answer ≡ Accepted rows
   pub many : length flags ≡ number
 
--- The flags of a node below a cut that has so many parts by at most so many binary cuts in turn, the last one horizontal;
--- each cut is said by a split, a vertical and a binary flag, and each part at the end by its own flags, or 0 for a leaf.
-unfoldable pub halved : (last : List ℕ) → ℕ → ℕ → List ℕ
+-- The flags of a node below a cut that is halved, by binary cuts one below the other, at most `cuts` of them, until it has
+-- `parts` parts: vertically and horizontally in turn, at last horizontally. Each cut is said by a split, a vertical and a
+-- binary flag, a part after all `cuts` cuts by the flags `last`, and one before that by 0, as a leaf.
+unfoldable pub halved : (last : List ℕ) (cuts parts : ℕ) → List ℕ
 halved last zero parts = last
 halved last (suc cuts) parts =
     cond (leb parts 1) (0 ∷ []) (1 ∷ cuts % 2 ∷ 1 ∷ (halved last cuts ((parts + 1) / 2) ++ halved last cuts (parts / 2)))

@@ -1,5 +1,5 @@
--- The flags of a coding tree by its samples: at most 7 for every 64 samples of its node, less 2; of a node of 128 by 128,
--- less 6.
+-- The flags of a coding tree by the samples of its node: at most 7 for every 64 samples, less what the node's sides cannot
+-- have. Of a square above all cuts, of side 8 to 64, this is 2; of one of 128 by 128, 6.
 use Prim.Native.Nat.{ℕ, _+_, _*_, _/_, _≤_}
 use mathlib.Core.Path.{_≡_, refl}
 use mathlib.Core.Bool.{Bool, true, false, cond, not, _&&_, _||_}
@@ -58,8 +58,8 @@ leafArea (Ternary d) w h = 0
 -- ---- one node: a test of all sides
 
 -- the splits that the sides of a node leave open, below a cut or not: at most these are open at the node
-abbrev sideRights : ℕ → ℕ → Bool → Rights
-sideRights w h cut = record {
+abbrev mostOpen : ℕ → ℕ → Bool → Rights
+mostOpen w h cut = record {
   within = true;
   quad = not cut && (ltb 4 w && eqb w h);
   binary = λ d. ltb 4 (pick d h w) && not (leb (pick d h w) 64 && ltb 64 (pick d w h));
@@ -68,8 +68,8 @@ sideRights w h cut = record {
 
 abbrev pays : Decision → ℕ → ℕ → Bool → Bool
 pays d w h cut =
-    implies (allows (sideRights w h cut) d)
-    (leb (64 * flagsAt (sideRights w h cut) d + 16 * spare w h cut) (16 * partSpares w h (cuts d) (shares d) + 7 * leafArea d w h))
+    implies (allows (mostOpen w h cut) d)
+    (leb (64 * flagsAt (mostOpen w h cut) d + 16 * spare w h cut) (16 * partSpares w h (cuts d) (shares d) + 7 * leafArea d w h))
 
 pay-test : (d : Decision) → forSides (λ w. forSides (λ h. forBool (pays d w h))) ≡ true
 unfolding shares
@@ -96,7 +96,7 @@ at-node f t {n} sh =
 
 module _ (k : Kind) (n : Node) (cb : 4 ≤ k .limits .mincb) (qt : 4 ≤ k .limits .minqt) (sh : Shape n) where
   abbrev bySides : Rights
-  bySides = sideRights (n .w) (n .h) (ltb 0 (n .mtt))
+  bySides = mostOpen (n .w) (n .h) (ltb 0 (n .mtt))
 
   at-most : (d : Decision) → Grows (allows (rightsOf k n) d) (allows bySides d)
   unfolding rightsOf

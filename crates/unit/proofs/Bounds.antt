@@ -1,5 +1,5 @@
 -- The bounds of a unit's rows and flags, and the edge of the picture: what settings that pass promise of every unit.
-use Prim.Native.Nat.{ℕ, _≤_, _<_}
+use Prim.Native.Nat.{ℕ, _<_}
 use mathlib.Core.Path.{_≡_, refl, ap}
 use mathlib.Core.List.{List}
 use lib.ListN.{length}
@@ -7,11 +7,7 @@ use native.Mathlib.Omega.{arith}
 use Rattle.settings.specs.declared.Settings.{Settings}
 use Rattle.tree.specs.Tree.{rowsOf}
 use Rattle.laws.proofs.ReachedNodes.{reached-opens}
-use Rattle.unit.specs.declared.Answer.the-variants.{Accepted, Refused}
-use Rattle.unit.specs.Reader.{readUnit}
-use Rattle.unit.specs.Writer.{writeFlags}
-use Rattle.unit.specs.Exactly.{Bytes}
-use Rattle.unit.specs.Bounds.{mostFlags, Bounds}
+use Rattle.unit.specs.Bounds.{Bounds}
 use Rattle.unit.specs.Edge.{EdgeOpen}
 use Rattle.unit.specs.Faults.{ReadFault, read-unit, read-flags, read-room}
 use Rattle.unit.proofs.Decided.{reading-decides}
@@ -23,21 +19,24 @@ use Rattle.unit.proofs.RoundTrips.{read-there, turned-there}
 use Rattle.unit.proofs.FlagFaults.{fault-range}
 use Rattle.unit.proofs.UnitFaults.{unit-most}
 
-module _ (s : Settings) (a : ℕ) where
-  rows : (flags buffer : List ℕ) (count : ℕ) → readUnit s a flags buffer .answer ≡ Accepted count
-      → (count ≤ 1024) × (length flags ≤ mostFlags (s .ctu))
-  rows flags buffer count e =
+few-rows : (s : Settings) (a : ℕ) {flags : List ℕ} {room number place : ℕ} → ReadFault s a flags room number place → number ≡ 14
+    → room < 8192
+few-rows s a (read-unit f) e = let m = unit-most s a f in absurd (omega arith)
+few-rows s a (read-flags h f) e = let m = fault-range f in absurd (omega arith)
+few-rows s a (read-room h t f l) e = let m = rows-most s a h t in omega arith
+
+pub bounds : Bounds
+bounds s a = record {
+  rows = λ flags buffer count e.
       let h = read-there s a flags buffer count e in
       let t = read-tree s a h flags buffer count e in
       let m = rows-most s a h (t .0) in
       let f = flags-most s a h (t .0) in
       let c = t .2 in
       let l = ap length (t .1) in
-      omega arith
-
-  flags : (bytes : List ℕ) → Bytes bytes → (buffer : List ℕ) (count : ℕ)
-      → writeFlags s a bytes buffer .answer ≡ Accepted count → (count ≤ mostFlags (s .ctu)) × (length bytes ≤ 8192)
-  flags bytes small buffer count e =
+      omega arith;
+  row-room = λ flags buffer room place e. let l = few-rows s a (reading-decides s a flags buffer .refuses 14 place .0 e) refl in omega arith;
+  flags = λ bytes small buffer count e.
       let h = turned-there s a bytes buffer count e in
       let t = turns-exactly s a h .only bytes small buffer count e in
       let m = rows-most s a h (t .0) in
@@ -45,29 +44,13 @@ module _ (s : Settings) (a : ℕ) where
       let c = t .2 in
       let l = ap length (t .1) in
       let n = table-length (rowsOf (t .0)) in
-      omega arith
-
-  few-rows : {flags : List ℕ} {room number place : ℕ} → ReadFault s a flags room number place → number ≡ 14
-      → room < 8192
-  few-rows (read-unit f) e = let m = unit-most s a f in absurd (omega arith)
-  few-rows (read-flags h f) e = let m = fault-range f in absurd (omega arith)
-  few-rows (read-room h t f l) e = let m = rows-most s a h t in omega arith
-
-  flag-room : (bytes : List ℕ) → Bytes bytes → (buffer : List ℕ) → mostFlags (s .ctu) ≤ length buffer → (place : ℕ)
-      → ¬ (writeFlags s a bytes buffer .answer ≡ Refused 17 place)
-  flag-room bytes small buffer room place e =
+      omega arith;
+  flag-room = λ bytes small buffer room place e.
       let x = short-tree s a bytes small buffer place e in
       let m = flags-most s a (x .there) (x .tree) in
       let n = x .needs in
       let l = x .lacks in
-      omega arith
-
-pub bounds : Bounds
-bounds s a = record {
-  rows = rows s a;
-  row-room = λ flags buffer room place e. let l = few-rows s a (reading-decides s a flags buffer .refuses 14 place .0 e) refl in omega arith;
-  flags = flags s a;
-  flag-room = flag-room s a;
+      omega arith;
 }
 
 pub edge-open : EdgeOpen

@@ -48,7 +48,13 @@ module _ (s : Settings) (a : ℕ) (h : unitRefusal s a ≡ 0) where
 
   of-tree : (t : UnitTree s a) {table : List ℕ} {flags : ℕ} → tableBytes (rowsOf t) ≡ table → length (flagsOf t) ≡ flags
       → FlagsOfTree s a table flags
-  of-tree t e l = record { tree = t; rows = e; said = sym l; counted = sym l ∙ flag-count t }
+  of-tree t e l = record {
+    tree = t;
+    rows = e;
+    only = λ u f. turns-exactly s a h .unique u t (f ∙ sym e);
+    said = sym l;
+    counted = sym l ∙ flag-count t;
+  }
 
 pub flag-buffer : FlagBuffer
 flag-buffer s a h = record {

@@ -1,4 +1,4 @@
--- How many rows and flags a unit's coding tree has, and the trees behind an accepted call and behind the refusal 17.
+-- How many rows and flags a unit's coding tree has at most, and the trees behind an accepted reading and the refusal 17.
 use Prim.Native.Nat.{ℕ, _+_, _*_, _≤_, _<_}
 use mathlib.Core.Path.{_≡_, refl, ap, _∙_}
 use mathlib.Core.Bool.{false}
@@ -75,7 +75,7 @@ module _ (s : Settings) (a : ℕ) (h : unitRefusal s a ≡ 0) where
       (t .0, t .1, delivered 14 _ _ buffer (rw (← (t .1), reads-exactly s a h .reads (t .0) buffer) at e) .0)
 
 module _ (s : Settings) (a : ℕ) where
-  -- the tree of rows whose flags do not fit their buffer, and that of the refusal 17
+  -- the tree behind the refusal 17: its flags do not fit the buffer, and the place is their number
   pub record Short (table : List ℕ) (room place : ℕ) : Type 0 where
     pub there : unitRefusal s a ≡ 0
     pub tree : UnitTree s a

@@ -1,5 +1,5 @@
--- What the header and docs/REFUSALS.md promise of every unit: at most 1,024 rows, at most so many flags, and buffers for so
--- many are never too short. The unit call on the due unit is this reading (`Demand1 .due-unit`, picture/specs/Demand1.antt).
+-- What the header and docs/REFUSALS.md promise of every unit: at most 1,024 rows and at most `mostFlags` flags, and buffers
+-- for so many are never too short. The unit call on the due unit is this reading (`Demand1 .due-unit`, picture/specs/Demand1.antt).
 use Prim.Native.Nat.{ℕ, _≤_}
 use mathlib.Core.Path.{_≡_}
 use mathlib.Core.Bool.{cond}
@@ -26,7 +26,7 @@ pub record Bounded (s : Settings) (a : ℕ) : Type 0 where
   -- an accepted way back
   pub flags : (bytes : List ℕ) → Bytes bytes → (buffer : List ℕ) (count : ℕ)
       → writeFlags s a bytes buffer .answer ≡ Accepted count → (count ≤ mostFlags (s .ctu)) × (length bytes ≤ 8192)
-  -- a flag buffer of so many bytes is never too short
+  -- a flag buffer of `mostFlags` bytes is never too short
   pub flag-room : (bytes : List ℕ) → Bytes bytes → (buffer : List ℕ) → mostFlags (s .ctu) ≤ length buffer
       → (place : ℕ) → ¬ (writeFlags s a bytes buffer .answer ≡ Refused 17 place)
 

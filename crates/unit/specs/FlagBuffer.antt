@@ -28,11 +28,12 @@ pub record FlagsOfRows (each less : ℕ) (s : Settings) (a : ℕ) : Type 0 where
   pub room : (rows : ℕ) (table : List ℕ) → Bytes table → length table ≡ 8 * rows → (buffer : List ℕ)
       → each * rows ≤ length buffer + less → (place : ℕ) → ¬ (writeFlags s a table buffer .answer ≡ Refused 17 place)
 
--- a number of flags is that of the coding tree that has the rows of a table (there is one: `TurnsExactly .unique`): the
--- length of its flags in coding order, and the number that is counted at its nodes
+-- a number of flags is that of the coding tree that has the rows of a table, and no other tree has them: the length of its
+-- flags in coding order, and the number that is counted at its nodes
 pub record FlagsOfTree (s : Settings) (a : ℕ) (table : List ℕ) (flags : ℕ) : Type 0 where
   pub tree : UnitTree s a
   pub rows : tableBytes (rowsOf tree) ≡ table
+  pub only : (t : UnitTree s a) → tableBytes (rowsOf t) ≡ table → t ≡ tree
   pub said : flags ≡ length (flagsOf tree)
   pub counted : flags ≡ flagCount tree
 

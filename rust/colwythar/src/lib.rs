@@ -46,11 +46,11 @@ pub use settings::Settings;
 /// ([`Settings::max_flags`]).
 pub const MAX_FLAGS: usize = 1_786;
 
-/// The most flags of a unit with so many rows: 4 for each row, less 2; 0 for no rows, which no unit
+/// No unit with so many rows has more flags: 4 for each row, less 2; 0 for no rows, which no unit
 /// has.
 ///
-/// A flag buffer of this length is never too short for [`write_flags`]; for 1 to 64 rows there are
-/// units that fill it. Document 02 asks for 6 for each row, less 4, which is never less.
+/// A flag buffer of this length is never too short for [`write_flags`]. For 1 to 64 rows some unit
+/// fills it. Where [`Settings::max_flags`] is smaller, that is enough.
 ///
 /// ```
 /// use colwythar::{max_flags_of_rows, write_flags, Settings};
@@ -99,8 +99,8 @@ pub fn read_unit(
 
 /// Writes the flags that give exactly these rows and answers how many.
 ///
-/// Bytes of `flags` past the answer stay as they were. [`max_flags_of_rows`] and
-/// [`Settings::max_flags`] say how long `flags` must be at most.
+/// Bytes of `flags` past the answer stay as they were. A buffer of
+/// [`max_flags_of_rows`] or [`Settings::max_flags`] bytes is never too short.
 ///
 /// ```
 /// use colwythar::{write_flags, Settings};

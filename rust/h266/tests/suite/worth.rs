@@ -23,13 +23,14 @@ fn pictures(ctu: u32) -> impl Iterator<Item = (u32, u32)> {
     sides().flat_map(move |width| sides().map(move |height| (width, height)))
 }
 
-/// Such pictures, all splits open that a setting can open.
+/// Such pictures, with every MinQt and no other limit.
 fn all_edges(ctu: u32) -> Vec<Settings> {
     let deepest = 2 * (ctu.ilog2() - 2);
-    let of = |(width, height)| {
-        [4, 8, 16].map(|qt| [ctu, 4, qt, deepest, ctu, ctu.min(64), width, height])
-    };
-    pictures(ctu).flat_map(of).collect()
+    let of =
+        |(width, height)| SIDES.map(|qt| [ctu, 4, qt, deepest, ctu, ctu.min(64), width, height]);
+    let mut all: Vec<Settings> = pictures(ctu).flat_map(of).collect();
+    all.retain(|settings| Params::new(settings).is_ok());
+    all
 }
 
 /// The greatest worth of a tree in any of these pictures, for these worths of a flag and a row.
