@@ -11,7 +11,6 @@ use native.Mathlib.Omega.{arith}
 use Rattle.sides.proofs.Bools.{forBool, at-bool}
 use Rattle.tree.specs.declared.Node.{Node}
 use Rattle.tree.specs.declared.Share.{Share}
-use Rattle.tree.specs.declared.Direction.{Direction}
 use Rattle.tree.specs.declared.Direction.the-variants.{Horizontal, Vertical}
 use Rattle.tree.specs.declared.Decision.{Decision}
 use Rattle.tree.specs.declared.Decision.the-variants.{Leaf, Quad, Binary, Ternary}
@@ -26,7 +25,7 @@ use Rattle.laws.proofs.Counts.{Grows, flag-count, flags-grow}
 use Rattle.laws.proofs.FlagCounts.{cuts}
 use Rattle.laws.proofs.Opens.{luma-may, quad-open, binary-open, ternary-open}
 use Rattle.laws.proofs.Shape.{Shape, shape-kids}
-use Rattle.laws.proofs.Sides.{One, one-of, forSides, at-side}
+use Rattle.laws.proofs.Sides.{one-of, forSides, at-side}
 use Rattle.laws.proofs.Tests.{implies, implies-use}
 
 -- Of a node: 4 times the flags, and the spare, are at most 7 for each cell of 4 by 4 samples. Where the node is split, the
