@@ -13,7 +13,7 @@ use Rattle.tree.specs.declared.Decision.{Decision}
 use Rattle.tree.specs.declared.Decision.the-variants.{Leaf, Quad, Binary, Ternary}
 use Rattle.tree.specs.Kind.{Kind}
 use Rattle.tree.specs.Splits.{pick, bit, Rights, rightsOf, allows}
-use Rattle.tree.specs.Flags.{cutOpen, someCut, someOpen, splitThere, quadThere, verticalThere, binaryThere, flagByte, cutFlags, flagsFor}
+use Rattle.tree.specs.Flags.{cutOpen, someCut, splitThere, quadThere, verticalThere, binaryThere, flagByte, cutFlags, flagsFor}
 use Rattle.tree.specs.Tree.{Trees, none, skip, node, flagsOf}
 use Rattle.laws.specs.Counts.{flagsAt, flagCount}
 
@@ -49,43 +49,43 @@ flag-count {k} (node {n = n} d here ok kids rest) =
 
 -- ---- the more splits are open, the more flags are present
 
-abbrev pub Grows : Bool → Bool → Type 0
-Grows a b = a ≡ true → b ≡ true
+abbrev pub Entails : Bool → Bool → Type 0
+Entails a b = a ≡ true → b ≡ true
 
-bit-grows : (a b : Bool) → Grows a b → bit a 1 ≤ bit b 1
-bit-grows false b h = omega arith
-bit-grows true b h = rw (h refl) (omega arith)
+bit-least : (a b : Bool) → Entails a b → bit a 1 ≤ bit b 1
+bit-least false b h = omega arith
+bit-least true b h = rw (h refl) (omega arith)
 
-and-grows : (a b c d : Bool) → Grows a c → Grows b d → Grows (a && b) (c && d)
-and-grows a b c d f g h = and-intro c d (f (and-left a b h)) (g (and-right a b h))
+both-entail : (a b c d : Bool) → Entails a c → Entails b d → Entails (a && b) (c && d)
+both-entail a b c d f g h = and-intro c d (f (and-left a b h)) (g (and-right a b h))
 
-or-grows : (a b c d : Bool) → Grows a c → Grows b d → Grows (a || b) (c || d)
-or-grows true b c d f g h = rw (f refl)
-or-grows false b c d f g h = or-right c d (g h)
+either-entails : (a b c d : Bool) → Entails a c → Entails b d → Entails (a || b) (c || d)
+either-entails true b c d f g h = rw (f refl)
+either-entails false b c d f g h = or-right c d (g h)
 
-module _ (r s : Rights) (grows : (d : Decision) → Grows (allows r d) (allows s d)) where
-  cut-grows : (d : Direction) → Grows (cutOpen r d) (cutOpen s d)
-  cut-grows d = or-grows _ _ _ _ (grows (Binary d)) (grows (Ternary d))
+module _ (r s : Rights) (more : (d : Decision) → Entails (allows r d) (allows s d)) where
+  more-cut : (d : Direction) → Entails (cutOpen r d) (cutOpen s d)
+  more-cut d = either-entails _ _ _ _ (more (Binary d)) (more (Ternary d))
 
-  some-cut-grows : Grows (someCut r) (someCut s)
-  some-cut-grows = or-grows _ _ _ _ (cut-grows Horizontal) (cut-grows Vertical)
+  more-cuts : Entails (someCut r) (someCut s)
+  more-cuts = either-entails _ _ _ _ (more-cut Horizontal) (more-cut Vertical)
 
-  split-grows : Grows (r .within && someOpen r) (s .within && someOpen s)
-  split-grows = and-grows _ _ _ _ (grows Leaf) (or-grows _ _ _ _ (grows Quad) some-cut-grows)
+  more-split : bit (splitThere r) 1 ≤ bit (splitThere s) 1
+  more-split = bit-least _ _ (both-entail _ _ _ _ (more Leaf) (either-entails _ _ _ _ (more Quad) more-cuts))
 
-  quad-grows : Grows (r .quad && someCut r) (s .quad && someCut s)
-  quad-grows = and-grows _ _ _ _ (grows Quad) some-cut-grows
+  more-quad : bit (quadThere r) 1 ≤ bit (quadThere s) 1
+  more-quad = bit-least _ _ (both-entail _ _ _ _ (more Quad) more-cuts)
 
-  cut-count : (d : Direction) → flagsAt r (Binary d) ≤ flagsAt s (Binary d)
-  cut-count d =
-      let a = bit-grows _ _ split-grows in
-      let b = bit-grows _ _ quad-grows in
-      let c = bit-grows _ _ (and-grows _ _ _ _ (cut-grows Horizontal) (cut-grows Vertical)) in
-      let e = bit-grows _ _ (and-grows _ _ _ _ (grows (Binary d)) (grows (Ternary d))) in
+  more-count : (d : Direction) → flagsAt r (Binary d) ≤ flagsAt s (Binary d)
+  more-count d =
+      let a = more-split in
+      let b = more-quad in
+      let c = bit-least _ _ (both-entail _ _ _ _ (more-cut Horizontal) (more-cut Vertical)) in
+      let e = bit-least _ _ (both-entail _ _ _ _ (more (Binary d)) (more (Ternary d))) in
       omega arith
 
   pub flags-grow : (d : Decision) → flagsAt r d ≤ flagsAt s d
-  flags-grow Leaf = bit-grows _ _ split-grows
-  flags-grow Quad = let a = bit-grows _ _ split-grows in let b = bit-grows _ _ quad-grows in omega arith
-  flags-grow (Binary d) = cut-count d
-  flags-grow (Ternary d) = cut-count d
+  flags-grow Leaf = more-split
+  flags-grow Quad = let a = more-split in let b = more-quad in omega arith
+  flags-grow (Binary d) = more-count d
+  flags-grow (Ternary d) = more-count d

@@ -21,8 +21,8 @@ use Rattle.tree.specs.Tree.{Trees, Tree, none, skip, node, flagsOf}
 use Rattle.laws.specs.Counts.{flagsAt, flagCount}
 use Rattle.laws.specs.Every.{Every, every-none, every-more}
 use Rattle.laws.proofs.Areas.{areasOf, kids-areas}
-use Rattle.laws.proofs.Counts.{Grows, flag-count, flags-grow}
-use Rattle.laws.proofs.FlagCounts.{cuts}
+use Rattle.laws.proofs.Counts.{Entails, flag-count, flags-grow}
+use Rattle.laws.proofs.FlagRows.{cuts}
 use Rattle.laws.proofs.Opens.{luma-may, quad-open, binary-open, ternary-open}
 use Rattle.laws.proofs.Shape.{Shape, shape-kids}
 use Rattle.laws.proofs.Sides.{one-of, forSides, at-side}
@@ -97,7 +97,7 @@ module _ (k : Kind) (n : Node) (cb : 4 ≤ k .limits .mincb) (qt : 4 ≤ k .limi
   abbrev bySides : Rights
   bySides = mostOpen (n .w) (n .h) (ltb 0 (n .mtt))
 
-  at-most : (d : Decision) → Grows (allows (rightsOf k n) d) (allows bySides d)
+  at-most : (d : Decision) → Entails (allows (rightsOf k n) d) (allows bySides d)
   unfolding rightsOf
   at-most Leaf h = refl
   at-most Quad h =

@@ -17,7 +17,7 @@ pub mod Every
 pub mod EveryRow
 pub mod First
 pub mod FlagAreas
-pub mod FlagCounts
+pub mod FlagRows
 pub mod Flags
 pub mod Grows
 pub mod Halts

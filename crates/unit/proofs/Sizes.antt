@@ -14,7 +14,7 @@ use Rattle.tree.specs.declared.Direction.the-variants.{Horizontal, Vertical}
 use Rattle.tree.specs.Rows.{tableBytes}
 use Rattle.tree.specs.Tree.{flagsOf, rowsOf}
 use Rattle.laws.proofs.FlagAreas.{spare, square-flags}
-use Rattle.laws.proofs.FlagCounts.{flags-four-rows}
+use Rattle.laws.proofs.FlagRows.{flags-four-rows}
 use Rattle.laws.proofs.Sizes.{rows-fit}
 use Rattle.unit.specs.declared.Answer.the-variants.{Accepted, Refused}
 use Rattle.unit.specs.Luma.{kindOf, rootAt}

@@ -12,7 +12,8 @@ use Rattle.unit.specs.Reader.{readUnit}
 use Rattle.unit.specs.Writer.{writeFlags}
 use Rattle.unit.specs.Exactly.{Bytes}
 
--- the greatest number of flags of a unit, by the CTU side
+-- the greatest number of flags of a unit with the CTU side 32, 64 or 128; `Largest` (largest/specs/Largest.antt) has units
+-- with so many
 abbrev pub mostFlags : (ctu : ℕ) → ℕ
 mostFlags ctu = cond (eqb ctu 32) 110 (cond (eqb ctu 64) 446 1786)
 

@@ -1,4 +1,4 @@
--- The flags of a coding tree are at most 4 for each of its rows, less 2.
+-- The flags of a coding tree by its rows: at most 4 for each row, less 2.
 use Prim.Native.Nat.{ℕ, _+_, _*_, _/_, _≤_, _<_}
 use mathlib.Core.Path.{_≡_, refl, ap}
 use mathlib.Core.Bool.{Bool, true, false, cond, not, _&&_, _||_}
@@ -18,12 +18,13 @@ use Rattle.tree.specs.declared.Decision.{Decision}
 use Rattle.tree.specs.declared.Decision.the-variants.{Leaf, Quad, Binary, Ternary}
 use Rattle.tree.specs.Kind.{Kind}
 use Rattle.tree.specs.Splits.{pick, along, rightOut, bottomOut, inside, outAlong, Rights, rightsOf, allows, bit}
-use Rattle.tree.specs.Flags.{flagsFor}
 use Rattle.tree.specs.Children.{shares, child, childMtt, childrenFrom, children, cornerInside}
 use Rattle.tree.specs.Rows.{ownRows}
 use Rattle.tree.specs.Tree.{Trees, Tree, none, skip, node, flagsOf, rowsOf}
 use Rattle.laws.proofs.Tests.{same-self, implies, implies-intro, implies-use}
+use Rattle.laws.specs.Counts.{flagsAt, flagCount}
 use Rattle.laws.specs.Every.{Every, every-none, every-more}
+use Rattle.laws.proofs.Counts.{flag-count}
 use Rattle.laws.proofs.Picture.{starts-in, not-out}
 use Rattle.laws.proofs.Directions.{corner, extent}
 use Rattle.laws.proofs.Multiples.{fold-least, four-quarters}
@@ -82,10 +83,10 @@ lawful right bottom cut r =
 abbrev pays : Decision → Bool → Bool → Bool → Rights → Bool
 pays d right bottom cut r =
     implies (lawful right bottom cut r && allows r d)
-    (leb (length (flagsFor r d) + spare cut) (partSpares (spare (cuts d)) right bottom (shares d) + fourRows d))
+    (leb (flagsAt r d + spare cut) (partSpares (spare (cuts d)) right bottom (shares d) + fourRows d))
 
 pay-test : (d : Decision) → forBool (λ right. forBool (λ bottom. forBool (λ cut. forRights (pays d right bottom cut)))) ≡ true
-unfolding flagsFor shares
+unfolding shares
 pay-test Leaf = refl
 pay-test Quad = refl
 pay-test (Binary Horizontal) = refl
@@ -124,7 +125,7 @@ module _ (k : Kind) (n : Node) where
       (and-intro _ _ (cut-lawful Horizontal) (cut-lawful Vertical)))
 
   node-pays : (d : Decision) → allows (rightsOf k n) d ≡ true
-      → length (flagsFor (rightsOf k n) d) + spare cut ≤ partSpares (spare (cuts d)) right bottom (shares d) + fourRows d
+      → flagsAt (rightsOf k n) d + spare cut ≤ partSpares (spare (cuts d)) right bottom (shares d) + fourRows d
   node-pays d ok =
       let a = at-bool (λ right. forBool (λ bottom. forBool (λ cut. forRights (pays d right bottom cut)))) (pay-test d) right in
       let b = at-bool (λ bottom. forBool (λ cut. forRights (pays d right bottom cut))) a bottom in
@@ -176,8 +177,8 @@ module _ (k : Kind) (n : Node) where
 -- ---- all nodes
 
 module _ (k : Kind) (cb : 4 ≤ k .limits .mincb) (qt : 4 ≤ k .limits .minqt) where
-  flags-spare : {ns : List Node} (t : Trees k ns) → Every Shape ns → length (flagsOf t) + sparesOf (k .limits) ns ≤ 4 * length (rowsOf t)
-  unfolding flagsOf rowsOf children
+  flags-spare : {ns : List Node} (t : Trees k ns) → Every Shape ns → flagCount t + sparesOf (k .limits) ns ≤ 4 * length (rowsOf t)
+  unfolding flagCount rowsOf children
   flags-spare none shs = omega arith
   flags-spare (skip out rest) (every-more sh shs) = let a = flags-spare rest shs in rw out (omega arith)
   flags-spare (node {n = n} d here ok kids rest) (every-more sh shs) =
@@ -186,9 +187,12 @@ module _ (k : Kind) (cb : 4 ≤ k .limits .mincb) (qt : 4 ≤ k .limits .minqt) 
       let c = node-pays k n d ok in
       let e = kids-spare k n sh here d (shares d) in
       let f = own-rows k n d in
-      rw (here, length-append (flagsFor (rightsOf k n) d) (flagsOf kids ++ flagsOf rest), length-append (flagsOf kids) (flagsOf rest))
-      (rw (length-append (ownRows n d ++ rowsOf kids) (rowsOf rest), length-append (ownRows n d) (rowsOf kids)) (omega arith))
+      rw (here, length-append (ownRows n d ++ rowsOf kids) (rowsOf rest), length-append (ownRows n d) (rowsOf kids)) (omega arith)
 
   module _ {n : Node} (sh : Shape n) (here : cornerInside (k .limits) n ≡ true) (t : Tree k n) where
     pub flags-four-rows : length (flagsOf t) + 2 ≤ 4 * length (rowsOf t)
-    flags-four-rows = let h = flags-spare t (every-more sh every-none) in let s = rw here at h in omega arith
+    flags-four-rows =
+        let h = flags-spare t (every-more sh every-none) in
+        let s = rw here at h in
+        let c = flag-count t in
+        omega arith
