@@ -5,7 +5,9 @@ pub mod BackSteps
 pub mod Backs
 pub mod Bounds
 pub mod Bytes
+pub mod CellOrder
 pub mod Cells
+pub mod Copies
 pub mod Counts
 pub mod Cover
 pub mod Cuts
@@ -22,6 +24,7 @@ pub mod Flags
 pub mod Grows
 pub mod Halts
 pub mod HaltsAt
+pub mod Joins
 pub mod Last
 pub mod Leads
 pub mod Leaves
@@ -36,9 +39,11 @@ pub mod Order
 pub mod Parts
 pub mod Picture
 pub mod Pipeline
+pub mod PipelineOrder
 pub mod Reach
 pub mod ReachedNodes
 pub mod Reading
+pub mod Rectangles
 pub mod Refusals
 pub mod Rights
 pub mod Runs

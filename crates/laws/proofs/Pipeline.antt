@@ -17,7 +17,7 @@ use Rattle.tree.specs.Splits.{along, across, closedNarrow, rightsOf, allows}
 use Rattle.tree.specs.Children.{children}
 use Rattle.tree.specs.Rows.{rowOf}
 use Rattle.tree.specs.Tree.{Tree, rowsOf}
-use Rattle.laws.specs.Geometry.{InOneCell, InPipeline, pipelineSide}
+use Rattle.laws.specs.Geometry.{InOneCell, OfWholeCells, InPipeline, pipelineSide}
 use Rattle.laws.specs.Every.{Every, every-none, every-more}
 use Rattle.laws.proofs.Leaves.{leaf-start, leaf-side}
 use Rattle.laws.proofs.EveryRow.{every-row}
@@ -46,9 +46,9 @@ side-from-64 side h = omega arith
 
 -- ---- a node of whole cells
 
-record Whole (n : Node) : Type 0 where
-  shape : Shape n
-  grid : Grid 64 n
+pub record Whole (n : Node) : Type 0 where
+  pub shape : Shape n
+  pub grid : Grid 64 n
 
 module _ (n : Node) (w : Whole n) where
   -- no longer than one cell: inside it
@@ -88,34 +88,13 @@ module _ (n : Node) (w : Whole n) where
     whole-room l (Binary d) ok e = cut-room d (cut-long d (binary-open l n d ok .narrow)) e
     whole-room l (Ternary d) ok e = let a = ternary-open l n d ok .tt in let b = a Vertical in let c = a Horizontal in absurd (omega arith)
 
--- ---- a node inside one cell, or of whole cells
-
-abbrev Placed : Node → Type 0
-Placed n = InOne 64 n ⊎ Whole n
-
-module _ (k : Kind) (cb : 4 ≤ k .limits .mincb) (qt : 4 ≤ k .limits .minqt) where
-  placed-kids : (n : Node) → Placed n → (d : Decision) → allows (rightsOf k n) d ≡ true → Every Placed (children (k .limits) n d)
-  placed-kids n (inl i) d ok = every-map (λ c. inl) (one-kids k cb qt 64 (omega arith) n i d ok)
-  placed-kids n (inr w) d ok = go (decLt 64 (max (n .w) (n .h)))
-    where
-      go : Dec (64 < max (n .w) (n .h)) → Every Placed (children (k .limits) n d)
-      go (yes long) = let room = whole-room n w long (k .limits) d (luma-may k n d ok) in every-child k n d (λ p piece. inr (record {
-        shape = shape-child k n cb qt (w .shape) d ok p piece;
-        grid = record {
-          side = λ e. child-fold (k .limits) n piece e (fold-multiple fold-64) (w .grid .side e) (room e);
-          at = λ e. child-start (k .limits) n piece e (fold-multiple fold-64) (w .grid .side e) (room e) (w .grid .at e);
-        };
-      }))
-      go (no long) = every-map (λ c. inl) (one-kids k cb qt 64 (omega arith) n (whole-one n w (omega arith) (omega arith)) d ok)
-
-  placed-leaf : (n : Node) → Placed n → InPipeline 64 (rowOf n)
-  placed-leaf n (inl i) = inl (one-leaf k cb qt 64 (omega arith) n i)
-  placed-leaf n (inr w) = inr (record {
+  pub whole-leaf : OfWholeCells 64 (rowOf n)
+  whole-leaf = record {
     left = rw (leaf-start n Vertical) (at Vertical);
     top = rw (leaf-start n Horizontal) (at Horizontal);
     wide = rw (leaf-side (w .shape) Vertical) (side Vertical);
     high = rw (leaf-side (w .shape) Horizontal) (side Horizontal);
-  })
+  }
     where
       at : (e : Direction) → corner e n % 64 ≡ 0
       at e = let m = w .grid .at e .is in omega arith
@@ -123,19 +102,50 @@ module _ (k : Kind) (cb : 4 ≤ k .limits .mincb) (qt : 4 ≤ k .limits .minqt) 
       side : (e : Direction) → along e n % 64 ≡ 0
       side e = let m = w .grid .side e .is in omega arith
 
+-- a square above one cell, at a multiple of its side
+pub square-whole : {n : Node} → Shape n → n .w ≡ n .h → ((e : Direction) → Multiple (along e n) (corner e n)) → 64 < n .w → Whole n
+square-whole {n} sh square at h = record { shape = sh; grid = record { side = side; at = λ e. trans-multiple (fold-multiple (side e)) (at e) } }
+  where
+    long : (e : Direction) → 64 ≤ along e n
+    long Horizontal = omega arith
+    long Vertical = omega arith
+
+    side : (e : Direction) → Fold 64 (along e n)
+    side e = larger-fold fold-64 (sh .side e .fold) (long e)
+
+-- ---- a node inside one cell, or of whole cells
+
+abbrev Placed : Node → Type 0
+Placed n = InOne 64 n ⊎ Whole n
+
+module _ (k : Kind) (cb : 4 ≤ k .limits .mincb) (qt : 4 ≤ k .limits .minqt) where
+  pub whole-kids : (n : Node) → Whole n → 64 < max (n .w) (n .h) → (d : Decision) → allows (rightsOf k n) d ≡ true → Every Whole (children (k .limits) n d)
+  whole-kids n w long d ok = let room = whole-room n w long (k .limits) d (luma-may k n d ok) in every-child k n d (λ p piece. record {
+    shape = shape-child k n cb qt (w .shape) d ok p piece;
+    grid = record {
+      side = λ e. child-fold (k .limits) n piece e (fold-multiple fold-64) (w .grid .side e) (room e);
+      at = λ e. child-start (k .limits) n piece e (fold-multiple fold-64) (w .grid .side e) (room e) (w .grid .at e);
+    };
+  })
+
+  placed-kids : (n : Node) → Placed n → (d : Decision) → allows (rightsOf k n) d ≡ true → Every Placed (children (k .limits) n d)
+  placed-kids n (inl i) d ok = every-map (λ c. inl) (one-kids k cb qt 64 (omega arith) n i d ok)
+  placed-kids n (inr w) d ok = go (decLt 64 (max (n .w) (n .h)))
+    where
+      go : Dec (64 < max (n .w) (n .h)) → Every Placed (children (k .limits) n d)
+      go (yes long) = every-map (λ c. inr) (whole-kids n w long d ok)
+      go (no long) = every-map (λ c. inl) (one-kids k cb qt 64 (omega arith) n (whole-one n w (omega arith) (omega arith)) d ok)
+
+  placed-leaf : (n : Node) → Placed n → InPipeline 64 (rowOf n)
+  placed-leaf n (inl i) = inl (one-leaf k cb qt 64 (omega arith) n i)
+  placed-leaf n (inr w) = inr (whole-leaf n w)
+
   -- ---- a square at a multiple of its side, as a unit is
 
   module _ {n : Node} (sh : Shape n) (square : n .w ≡ n .h) (at : (e : Direction) → Multiple (along e n) (corner e n)) (t : Tree k n) where
     root-placed : Dec (64 < n .w) → Placed n
     root-placed (no h) = inl (small-in-one fold-64 sh at (both-sides n (omega arith) (omega arith)))
-    root-placed (yes h) = inr (record { shape = sh; grid = record { side = side; at = λ e. trans-multiple (fold-multiple (side e)) (at e) } })
-      where
-        long : (e : Direction) → 64 ≤ along e n
-        long Horizontal = omega arith
-        long Vertical = omega arith
-
-        side : (e : Direction) → Fold 64 (along e n)
-        side e = larger-fold fold-64 (sh .side e .fold) (long e)
+    root-placed (yes h) = inr (square-whole sh square at h)
 
     -- inside one cell, of any power of two from the square's side on
     pub in-one : (c : ℕ) → Fold 4 c → n .w ≤ c → Every (InOneCell c) (rowsOf t)

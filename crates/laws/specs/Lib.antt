@@ -1,3 +1,4 @@
+pub mod CellOrder
 pub mod Counts
 pub mod Every
 pub mod Geometry

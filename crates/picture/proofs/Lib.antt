@@ -7,3 +7,4 @@ pub mod LumaUnits
 pub mod Demand1
 pub mod Demand3
 pub mod Pipeline
+pub mod PipelineOrder

@@ -25,7 +25,7 @@ module _ {g : Coding} {first : ℕ} {next : ℕ → ℕ} {Due : ℕ → g .Sessi
   place = l .order .place
 
   -- outside the picture
-  none-outside : (us : List (g .Taken)) → inPicture g px py ≡ false → inUnits g us px py ≡ false
+  pub none-outside : (us : List (g .Taken)) → inPicture g px py ≡ false → inUnits g us px py ≡ false
   unfolding samples.inUnits
   none-outside [] h = refl
   none-outside (u ∷ us) h = rw (h, and-no (inSquare (g .square (g .address u)) px py) false refl) (none-outside us h)

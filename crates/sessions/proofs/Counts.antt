@@ -1,15 +1,13 @@
--- Samples counted: squares and the picture as tests and as numbers, and the rows of two lists.
+-- Samples counted: squares and the picture as tests and as numbers.
 use Prim.Native.Nat.{ℕ, _+_, _*_}
 use mathlib.Core.Path.{_≡_, refl}
 use mathlib.Core.Bool.{Bool, true, false, _&&_, _||_}
-use mathlib.Core.List.{List, [], _∷_, _++_}
 use native.Mathlib.Omega.{arith}
 use lib.Dec.{leb, ltb}
 use borrow.Author.Tests.{le-leb}
 use Rattle.settings.specs.declared.Square.{Square}
 use Rattle.tree.specs.Splits.{bit}
-use Rattle.tree.specs.Rows.{Row}
-use Rattle.laws.specs.Geometry.{span, rectangle, copies}
+use Rattle.laws.specs.Geometry.{span, rectangle}
 use Rattle.sessions.specs.Samples.{inSquare, isSample}
 
 pub both : (a b : Bool) → bit a 1 * bit b 1 ≡ bit (a && b) 1
@@ -20,12 +18,6 @@ both false b = omega arith
 pub either : (a b : Bool) → (a ≡ true → b ≡ false) → bit a 1 + bit b 1 ≡ bit (a || b) 1
 either true b h = rw (h refl)
 either false b h = omega arith
-
-pub copies-append : (px py : ℕ) (first rest : List Row)
-    → copies px py (first ++ rest) ≡ copies px py first + copies px py rest
-unfolding copies
-copies-append px py [] rest = omega arith
-copies-append px py (r ∷ first) rest = let e = copies-append px py first rest in omega arith
 
 -- whether p is one of the l samples from a on
 abbrev within : ℕ → ℕ → ℕ → Bool

@@ -8,12 +8,13 @@ use borrow.Author.Tests.{eqb-true}
 use Rattle.sides.proofs.Bools.{and-left, and-right}
 use Rattle.tree.specs.Splits.{bit}
 use Rattle.laws.specs.Geometry.{copies}
+use Rattle.laws.proofs.Copies.{copies-append}
 use Rattle.sessions.specs.Lists as lists
 use Rattle.sessions.specs.Samples as samples
 use Rattle.sessions.specs.Samples.{inSquare}
 use Rattle.sessions.specs.Coding.{Coding}
 use Rattle.sessions.specs.Demand.{joined, inPicture, inUnits}
-use Rattle.sessions.proofs.Counts.{both, either, copies-append, picture-bit}
+use Rattle.sessions.proofs.Counts.{both, either, picture-bit}
 use Rattle.sessions.proofs.Forests.{forest-covered}
 use Rattle.sessions.proofs.Laws.{Laws}
 use Rattle.sessions.proofs.Units.{no-units, a-unit, Read, ReadFrom}

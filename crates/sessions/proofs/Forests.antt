@@ -10,12 +10,12 @@ use Rattle.sides.proofs.Bools.{clash}
 use Rattle.tree.specs.Rows.{Row}
 use Rattle.tree.specs.Tree.{Tree, flagsOf, rowsOf}
 use Rattle.laws.specs.Every.{Every, every-none, every-more}
-use Rattle.laws.proofs.Every.{every-join}
 use Rattle.laws.specs.Geometry.{rectangle, copies}
 use Rattle.laws.proofs.Bytes.{Reads, nothing, reads-part, reads-all}
+use Rattle.laws.proofs.Copies.{copies-append}
+use Rattle.laws.proofs.Joins.{Joins}
 use Rattle.laws.proofs.Unique.{alone}
 use Rattle.sessions.specs.Forest.{UnitPart, Forest, no-tree, a-tree, forestFlags, forestRows, rootCopies}
-use Rattle.sessions.proofs.Counts.{copies-append}
 use Rattle.sessions.proofs.Parts.{GoodRoot, part-covered, part-legible}
 
 module _ {Table : Type 0} where
@@ -59,18 +59,18 @@ module _ {Table : Type 0} where
             one true = part-covered s t px py
             one false = omega arith
 
-        -- what each row of a good part's tree has, each row of the forest has
-        pub forest-every : {P : Row → Type 0}
-            → ((p : UnitPart Table) → GoodPart p → (t : Tree (p .kind) (p .root)) → Every P (rowsOf t))
-            → {ps : List (UnitPart Table)} → Every GoodPart ps → (t : Forest ps) → Every P (forestRows same i t)
+        -- what the rows of a good part's tree have, and joined tables where their parts have it, the rows of the forest have
+        pub forest-joined : {F : List Row → Type 0} → Joins F
+            → ((p : UnitPart Table) → GoodPart p → (t : Tree (p .kind) (p .root)) → F (rowsOf t))
+            → {ps : List (UnitPart Table)} → Every GoodPart ps → (t : Forest ps) → F (forestRows same i t)
         unfolding forestRows
-        forest-every of-part every-none no-tree = every-none
-        forest-every {P} of-part (every-more {a = p} s ss) (a-tree t ts) =
-            every-join (one (same i (p .table))) (forest-every of-part ss ts)
+        forest-joined joins of-part every-none no-tree = joins .empty
+        forest-joined {F} joins of-part (every-more {a = p} s ss) (a-tree t ts) =
+            joins .join (one (same i (p .table))) (forest-joined joins of-part ss ts)
           where
-            one : (b : Bool) → Every P (cond b (rowsOf t) [])
+            one : (b : Bool) → F (cond b (rowsOf t) [])
             one true = of-part p s t
-            one false = every-none
+            one false = joins .empty
 
       -- the rows of all tables, whatever rows follow in each, say the flags and the rows that follow
       module _ (itself : (i : Table) → same i i ≡ true) where

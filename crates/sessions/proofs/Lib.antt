@@ -9,3 +9,4 @@ pub mod Covered
 pub mod Complete
 pub mod Legible
 pub mod Demand
+pub mod CellOrder

@@ -1,0 +1,70 @@
+-- How many rows of a table contain a sample, by the parts of the table and by single rows.
+use Prim.Native.Nat.{ℕ, zero, suc, _+_, _-_, _^_, _≤_, _<_}
+use mathlib.Core.Path.{_≡_, refl, sym, ap, _∙_}
+use mathlib.Core.List.{List, [], _∷_, _++_}
+use mathlib.Core.Option.{some}
+use lib.ListN.{length, getElem?, take, drop, take-append-drop}
+use lib.Pow.{pow-pos}
+use native.Mathlib.Nat.{zero-add}
+use native.Mathlib.Omega.{arith}
+use Rattle.tree.specs.Rows.{Row}
+use Rattle.laws.specs.Geometry.{rectangle, copies}
+use Rattle.laws.proofs.Tests.{never}
+use Rattle.laws.proofs.Cover.{span-in}
+
+-- ---- rows, each with its samples
+
+abbrev pub inRow : Row → ℕ → ℕ → ℕ
+inRow r px py = rectangle (r .x) (r .y) (2 ^ r .ew) (2 ^ r .eh) px py
+
+pub own-corner : (r : Row) → inRow r (r .x) (r .y) ≡ 1
+own-corner r =
+    let w = pow-pos (r .ew) in
+    let h = pow-pos (r .eh) in
+    rw (span-in (r .x) (2 ^ r .ew) (r .x) (omega arith) (omega arith), span-in (r .y) (2 ^ r .eh) (r .y) (omega arith) (omega arith))
+
+module _ (px py : ℕ) where
+  -- ---- two tables, one after the other
+
+  pub copies-append : (first rest : List Row) → copies px py (first ++ rest) ≡ copies px py first + copies px py rest
+  unfolding copies
+  copies-append [] rest = omega arith
+  copies-append (r ∷ first) rest = let e = copies-append first rest in omega arith
+
+  pub copies-take : (n : ℕ) (first rest : List Row)
+      → copies px py (take n (first ++ rest)) ≡ copies px py (take n first) + copies px py (take (n - length first) rest)
+  unfolding copies
+  copies-take zero first rest = let e : 0 - length first ≡ 0 = omega arith in rw e
+  copies-take (suc n) [] rest = let e : suc n - 0 ≡ suc n = omega arith in rw e (sym (zero-add (copies px py (take (suc n) rest))))
+  copies-take (suc n) (r ∷ first) rest =
+      let e : suc n - suc (length first) ≡ n - length first = omega arith in
+      rw (e, copies-take n first rest) (omega arith)
+
+  -- ---- the rows before a number, and those from it on
+
+  pub copies-zero : (rows : List Row) → copies px py (take 0 rows) ≡ 0
+  unfolding copies
+  copies-zero rows = refl
+
+  pub copies-none : (n : ℕ) → copies px py (take n []) ≡ 0
+  unfolding copies
+  copies-none zero = refl
+  copies-none (suc n) = refl
+
+  pub copies-parts : (n : ℕ) (rows : List Row) → copies px py (take n rows) + copies px py (drop n rows) ≡ copies px py rows
+  copies-parts n rows = sym (copies-append (take n rows) (drop n rows)) ∙ ap (copies px py) (take-append-drop n rows)
+
+  pub row-taken : {r : Row} (rows : List Row) (i n : ℕ) → getElem? rows i ≡ some r → i < n → inRow r px py ≤ copies px py (take n rows)
+  unfolding copies
+  row-taken [] i n e h = never (cc)
+  row-taken (s ∷ rows) i zero e h = absurd (omega arith)
+  row-taken {r} (s ∷ rows) zero (suc n) e h = let same : s ≡ r = cc in rw same (omega arith)
+  row-taken (s ∷ rows) (suc i) (suc n) e h = let k = row-taken rows i n e (omega arith) in omega arith
+
+  pub row-dropped : {r : Row} (rows : List Row) (i n : ℕ) → getElem? rows i ≡ some r → n ≤ i → inRow r px py ≤ copies px py (drop n rows)
+  unfolding copies
+  row-dropped [] i n e h = never (cc)
+  row-dropped {r} (s ∷ rows) zero zero e h = let same : s ≡ r = cc in rw same (omega arith)
+  row-dropped (s ∷ rows) (suc i) zero e h = let k = row-dropped rows i 0 e (omega arith) in omega arith
+  row-dropped (s ∷ rows) zero (suc n) e h = absurd (omega arith)
+  row-dropped (s ∷ rows) (suc i) (suc n) e h = row-dropped rows i n e (omega arith)

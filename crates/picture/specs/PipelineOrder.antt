@@ -1,0 +1,36 @@
+-- R-14, "Units arrive whole": one claim about every accepted greyscale unit, read by itself or in a session. Pipeline units
+-- have R-4's side. What it says of a table is `CellByCell` (laws/specs/CellOrder.antt).
+use Prim.Native.Nat.{ℕ}
+use mathlib.Core.Path.{_≡_}
+use mathlib.Core.List.{List}
+use Rattle.settings.specs.declared.Settings.{Settings}
+use Rattle.tree.specs.Rows.{Row, rowsAt}
+use Rattle.laws.specs.Every.{Every}
+use Rattle.laws.specs.Geometry.{pipelineSide}
+use Rattle.laws.specs.CellOrder.{CellByCell}
+use Rattle.unit.specs.declared.Answer.the-variants.{Accepted}
+use Rattle.unit.specs.Reader.{readUnit}
+use Rattle.picture.specs.declared.Session.{Session}
+use Rattle.picture.specs.declared.Opened.the-variants.{Fresh}
+use Rattle.picture.specs.Session.{Call, opening}
+use Rattle.picture.specs.Lists.{rowsOfUnit, acceptedIn, joined}
+
+-- "the rows lying in one pipeline unit are consecutive in its table", and when a row of another one appears, the samples of
+-- the former are all there
+abbrev pub InPipelineOrder : Settings → List Row → Type 0
+InPipelineOrder s rows = CellByCell (pipelineSide (s .ctu)) (s .width) (s .height) rows
+
+-- after a list of calls, by the units accepted in it
+pub record OrderAfter (s : Settings) (t : Session) (calls : List Call) : Type 0 where
+  -- the table of each unit: "the rows that the call wrote", in its buffer "as they stood when that call ended"
+  pub each : Every (λ u. InPipelineOrder s (rowsOfUnit u)) (acceptedIn t calls)
+  -- the joined table: a unit's last pipeline unit is complete when the first row of the next unit appears
+  pub all : InPipelineOrder s (joined (acceptedIn t calls))
+
+pub record PipelineOrder : Type 0 where
+  -- an accepted reading of a unit: its rows, as many as it answers, in the buffer that it left
+  pub reading : (s : Settings) (a : ℕ) (flags buffer : List ℕ) (count : ℕ)
+      → readUnit s a flags buffer .answer ≡ Accepted count
+      → InPipelineOrder s (rowsAt count (readUnit s a flags buffer .buffer) 0)
+  -- every list of calls from a freshly opened session, as in demand 3
+  pub session : (s : Settings) (t : Session) → opening s ≡ Fresh t → (calls : List Call) → OrderAfter s t calls
