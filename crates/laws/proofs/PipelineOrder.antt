@@ -219,5 +219,5 @@ module _ (k : Kind) (cb : 4 ≤ k .limits .mincb) (qt : 4 ≤ k .limits .minqt) 
         go (no h) = rw (side-to-64 (n .w) (omega arith)) (own-fills sh square at t)
 
     -- R-14's law of one tree
-    pub tree-cell-by-cell : CellByCell (pipelineSide (n .w)) (k .limits .width) (k .limits .height) (rowsOf t)
-    tree-cell-by-cell = cell-by-cell _ _ _ (tree-once sh t) tree-fills
+    pub tree-cell-by-cell : {side : ℕ} → side ≡ pipelineSide (n .w) → CellByCell side (k .limits .width) (k .limits .height) (rowsOf t)
+    tree-cell-by-cell e = rw e (cell-by-cell _ _ _ (tree-once sh t) tree-fills)

@@ -23,7 +23,7 @@ unfolding squareAt
 tree-order {s} r t =
     let cb = r .valid .leastCb in
     let qt = r .valid .leQt in
-    tree-cell-by-cell (kindOf s) cb (omega arith) (r .good .shape) refl (λ e. rw (r .side e) (r .at e)) t
+    tree-cell-by-cell (kindOf s) cb (omega arith) (r .good .shape) refl (λ e. rw (r .side e) (r .at e)) t (omega arith)
 
 pub pipeline-order : PipelineOrder
 pipeline-order = record {
