@@ -10,7 +10,7 @@ use native.Mathlib.Decide.{decLt, ℕ-discrete}
 use Rattle.tree.specs.Rows.{Row}
 use Rattle.laws.specs.Geometry.{copies, InOneCell}
 use Rattle.laws.specs.Every.{Every, every-none, every-more}
-use Rattle.laws.specs.CellOrder.{SampleIn, RowIn, RowAt, CellByCell}
+use Rattle.laws.specs.CellOrder.{RowIn, Begun, Full, RowAt, CellByCell}
 use Rattle.laws.proofs.Tests.{never}
 use Rattle.laws.proofs.Joins.{Joins}
 use Rattle.laws.proofs.Copies.{own-corner, copies-append, copies-take, copies-zero, copies-none, copies-parts, row-taken, row-dropped}
@@ -72,56 +72,61 @@ module _ (width height : ℕ) where
     -- ---- `complete` of `CellByCell`, as far as the rows before a number go
 
     pub record Filled (rows : List Row) : Type 0 where
-      pub all : (across down next : ℕ) → ¬ RowAt (RowIn side across down) rows next
-          → (px py : ℕ) → SampleIn side across down px py → 0 < copies px py (take next rows)
-          → (qx qy : ℕ) → SampleIn side across down qx qy → qx < width → qy < height → copies qx qy (take next rows) ≡ 1
+      pub all : (across down next : ℕ) → ¬ RowAt (RowIn side across down) rows next → Begun side across down (take next rows)
+          → Full side width height across down (take next rows)
 
     filled-none : Filled []
-    filled-none = record { all = λ across down next out px py p begun. let e = copies-none px py next in absurd (omega arith) }
+    filled-none = record { all = λ across down next out b. let e = copies-none (b .px) (b .py) next in let s = b .there in absurd (omega arith) }
 
-    -- of two tables, one after the other: a sample is in the first one, which then has the whole cell, or in the other
+    -- of two tables, one after the other: the sample is in the first one, which then has the whole cell, or in the other
     module _ (first rest : List Row) (o : Once (first ++ rest)) (f : Filled first) (g : Filled rest) where
-      module _ (across down next : ℕ) (out : ¬ RowAt (RowIn side across down) (first ++ rest) next) (px py : ℕ)
-          (p : SampleIn side across down px py) (qx qy : ℕ) (q : SampleIn side across down qx qy) (wide : qx < width)
-          (high : qy < height) where
-        in-first : 0 < copies px py (take next first) → copies qx qy (take next first) ≡ 1
-        in-first begun = f .all across down next (λ r. out (at-front first rest next r)) px py p begun qx qy q wide high
+      module _ (across down next : ℕ) (out : ¬ RowAt (RowIn side across down) (first ++ rest) next) where
+        abbrev after : ℕ
+        after = next - length first
 
-        in-rest : 0 < copies px py (take (next - length first) rest) → copies qx qy (take (next - length first) rest) ≡ 1
-        in-rest begun = go (decLt (length first) next)
+        in-first : Begun side across down (take next first) → Full side width height across down (take next first)
+        in-first b = f .all across down next (λ r. out (at-front first rest next r)) b
+
+        in-rest : Begun side across down (take after rest) → Full side width height across down (take after rest)
+        in-rest b = go (decLt (length first) next)
           where
-            go : Dec (length first < next) → copies qx qy (take (next - length first) rest) ≡ 1
+            go : Dec (length first < next) → Full side width height across down (take after rest)
             go (yes h) =
-                let e : length first + (next - length first) ≡ next = omega arith in
-                g .all across down (next - length first) (λ r. out (subst (λ i. RowAt (RowIn side across down) (first ++ rest) i) e (at-past first rest _ r)))
-                px py p begun qx qy q wide high
+                let e : length first + after ≡ next = omega arith in
+                g .all across down after (λ r. out (subst (λ i. RowAt (RowIn side across down) (first ++ rest) i) e (at-past first rest after r))) b
             go (no h) =
-                let e : next - length first ≡ 0 = omega arith in
-                let z : copies px py (take (next - length first) rest) ≡ 0 = rw e (copies-zero px py rest) in
+                let e : after ≡ 0 = omega arith in
+                let z : copies (b .px) (b .py) (take after rest) ≡ 0 = rw e (copies-zero (b .px) (b .py) rest) in
+                let s = b .there in
                 absurd (omega arith)
 
-        at-most : copies qx qy (take next first) + copies qx qy (take (next - length first) rest) ≤ 1
-        at-most =
+        at-most : (qx qy : ℕ) → copies qx qy (take next first) + copies qx qy (take after rest) ≤ 1
+        at-most qx qy =
             let a = copies-append qx qy first rest in
             let b = copies-parts qx qy next first in
-            let c = copies-parts qx qy (next - length first) rest in
+            let c = copies-parts qx qy after rest in
             let m = o .most qx qy in
             omega arith
 
-        in-either : 0 < copies px py (take next (first ++ rest)) → copies qx qy (take next (first ++ rest)) ≡ 1
-        in-either begun = go (decLt 0 (copies px py (take next first)))
+        in-either : Begun side across down (take next (first ++ rest)) → Full side width height across down (take next (first ++ rest))
+        in-either b qx qy q wide high = go (decLt 0 (copies (b .px) (b .py) (take next first)))
           where
-            go : Dec (0 < copies px py (take next first)) → copies qx qy (take next (first ++ rest)) ≡ 1
-            go (yes h) = let e = copies-take qx qy next first rest in let x = in-first h in let m = at-most in omega arith
-            go (no h) =
-                let a = copies-take px py next first rest in
+            go : Dec (0 < copies (b .px) (b .py) (take next first)) → copies qx qy (take next (first ++ rest)) ≡ 1
+            go (yes h) =
+                let x = in-first (record { px = b .px; py = b .py; sample = b .sample; there = h }) qx qy q wide high in
                 let e = copies-take qx qy next first rest in
-                let x = in-rest (omega arith) in
-                let m = at-most in
+                let m = at-most qx qy in
+                omega arith
+            go (no h) =
+                let a = copies-take (b .px) (b .py) next first rest in
+                let s = b .there in
+                let x = in-rest (record { px = b .px; py = b .py; sample = b .sample; there = omega arith }) qx qy q wide high in
+                let e = copies-take qx qy next first rest in
+                let m = at-most qx qy in
                 omega arith
 
       filled-join : Filled (first ++ rest)
-      filled-join = record { all = λ across down next out px py p begun qx qy q wide high. in-either across down next out px py p qx qy q wide high begun }
+      filled-join = record { all = in-either }
 
     -- so what is joined of such tables is such a table, where it has each sample once at most
     pub record Fills (rows : List Row) : Type 0 where
@@ -149,15 +154,28 @@ module _ (width height : ℕ) where
         go (yes a) (yes b) (yes c) (no d) = no (λ i. d (i .one .down))
 
     module _ (rows : List Row) (o : Once rows) (f : Filled rows) where
-      complete : (across down next : ℕ) → ¬ RowAt (RowIn side across down) rows next
-          → (px py : ℕ) → SampleIn side across down px py → 0 < copies px py (take next rows)
-          → (qx qy : ℕ) → SampleIn side across down qx qy → qx < width → qy < height
-          → (copies qx qy (take next rows) ≡ 1) × (copies qx qy (drop next rows) ≡ 0)
-      complete across down next out px py p begun qx qy q wide high =
-          let e = f .all across down next out px py p begun qx qy q wide high in
-          let s = copies-parts qx qy next rows in
-          let m = o .most qx qy in
-          (e, omega arith)
+      none-later : (across down next : ℕ) → Full side width height across down (take next rows) → ¬ Begun side across down (drop next rows)
+      none-later across down next full b =
+          let s = b .there in
+          let e = copies-parts (b .px) (b .py) next rows in
+          let i = o .inside (b .px) (b .py) (omega arith) in
+          let a = full (b .px) (b .py) (b .sample) (omega arith) (omega arith) in
+          let m = o .most (b .px) (b .py) in
+          omega arith
+
+      begun-by : {across down i : ℕ} (n : ℕ) → RowAt (RowIn side across down) rows i → i < n → Begun side across down (take n rows)
+      begun-by {i = i} n x h =
+          let r = x .row in
+          let a = own-corner r in
+          let b = row-taken (r .x) (r .y) rows i n (x .is) h in
+          record { px = r .x; py = r .y; sample = x .has .corner; there = omega arith }
+
+      begun-from : {across down i : ℕ} (n : ℕ) → RowAt (RowIn side across down) rows i → n ≤ i → Begun side across down (drop n rows)
+      begun-from {i = i} n x h =
+          let r = x .row in
+          let a = own-corner r in
+          let b = row-dropped (r .x) (r .y) rows i n (x .is) h in
+          record { px = r .x; py = r .y; sample = x .has .corner; there = omega arith }
 
       between : (across down i j k : ℕ) → i < j → j < k → RowAt (RowIn side across down) rows i
           → RowAt (RowIn side across down) rows k → RowAt (RowIn side across down) rows j
@@ -165,17 +183,12 @@ module _ (width height : ℕ) where
         where
           go : Dec (RowAt (RowIn side across down) rows j) → RowAt (RowIn side across down) rows j
           go (yes r) = r
-          go (no out) =
-              let p = x .row in
-              let q = y .row in
-              let a = own-corner p in
-              let b = row-taken (p .x) (p .y) rows i j (x .is) h in
-              let c = own-corner q in
-              let d = row-dropped (q .x) (q .y) rows k j (y .is) (omega arith) in
-              let s = copies-parts (q .x) (q .y) j rows in
-              let w = o .inside (q .x) (q .y) (omega arith) in
-              let n = complete across down j out (p .x) (p .y) (x .has .corner) (omega arith) (q .x) (q .y) (y .has .corner) (w .0) (w .1) .1 in
-              absurd (omega arith)
+          go (no out) = absurd (none-later across down j (f .all across down j out (begun-by j x h)) (begun-from j y (omega arith)))
 
     pub cell-by-cell : {rows : List Row} → Once rows → Fills rows → CellByCell side width height rows
-    cell-by-cell {rows} o f = let g = f .where-once o in record { consecutive = between rows o g; complete = complete rows o g }
+    cell-by-cell {rows} o f =
+        let g = f .where-once o in
+        record {
+          consecutive = between rows o g;
+          complete = λ across down next out b. let full = g .all across down next out b in (full, none-later rows o g across down next full);
+        }

@@ -20,7 +20,7 @@ use Rattle.tree.specs.Rows.{Row, rowOf, ownRows}
 use Rattle.tree.specs.Tree.{Trees, Tree, none, skip, node, rowsOf}
 use Rattle.laws.specs.Geometry.{rectangle, copies, OfWholeCells, pipelineSide}
 use Rattle.laws.specs.Every.{Every, every-none, every-more}
-use Rattle.laws.specs.CellOrder.{SampleIn, RowIn, RowAt, CellByCell}
+use Rattle.laws.specs.CellOrder.{RowIn, Begun, Full, RowAt, CellByCell}
 use Rattle.laws.proofs.Every.{every-map, every-both}
 use Rattle.laws.proofs.Directions.{corner}
 use Rattle.laws.proofs.Multiples.{Multiple, Fold, fold-least}
@@ -82,7 +82,9 @@ module _ (width height : ℕ) {r : Row} (w : OfWholeCells 64 r) where
   row-fills : Fills width height 64 (r ∷ [])
   row-fills = record {
     where-once = λ o. record {
-      all = λ across down next out px py p begun qx qy q wide high. whole-row next px py qx qy (p .0 ∙ sym (q .0), p .1 ∙ sym (q .1)) begun;
+      all = λ across down next out b qx qy q wide high.
+          let p = b .sample in
+          whole-row next (b .px) (b .py) qx qy (p .0 ∙ sym (q .0), p .1 ∙ sym (q .1)) (b .there);
     };
   }
 
@@ -134,36 +136,35 @@ module _ (k : Kind) (cb : 4 ≤ k .limits .mincb) (qt : 4 ≤ k .limits .minqt) 
         between-y r w = let p = pow-pos (min 7 (r .eh)) in let e = w .ends Horizontal in record { low = w .starts Horizontal; high = omega arith }
 
     -- while its rows come, each lies in it; after the last one, all of its samples are there
-    module _ (across down next : ℕ) (out : ¬ RowAt (RowIn (n .w) across down) (rowsOf t) next) (px py : ℕ)
-        (p : SampleIn (n .w) across down px py) (begun : 0 < copies px py (take next (rowsOf t))) where
+    module _ (across down next : ℕ) (out : ¬ RowAt (RowIn (n .w) across down) (rowsOf t) next)
+        (b : Begun (n .w) across down (take next (rowsOf t))) where
       this-cell : (n .x / n .w ≡ across) × (n .y / n .w ≡ down)
       this-cell =
-          let s = copies-parts px py next (rowsOf t) in
-          let b = tree-node sh t px py (omega arith) in
-          (sym (same-across px (b .0)) ∙ p .0, sym (same-down py (b .1)) ∙ p .1)
+          let s = b .there in
+          let e = copies-parts (b .px) (b .py) next (rowsOf t) in
+          let i = tree-node sh t (b .px) (b .py) (omega arith) in
+          (sym (same-across (b .px) (i .0)) ∙ b .sample .0, sym (same-down (b .py) (i .1)) ∙ b .sample .1)
 
       at-end : length (rowsOf t) ≤ next
       at-end = go (decLt next (length (rowsOf t)))
         where
           go : Dec (next < length (rowsOf t)) → length (rowsOf t) ≤ next
-          go (yes h) =
-              let c = this-cell in
-              absurd (out (subst (λ d. RowAt (RowIn (n .w) across d) (rowsOf t) next) (c .1) (subst (λ a. RowAt (RowIn (n .w) a (n .y / n .w)) (rowsOf t) next) (c .0) (every-at own-cell next h))))
+          go (yes h) = let c = this-cell in absurd (out (rw (← (c .0), ← (c .1)) (every-at own-cell next h)))
           go (no h) = omega arith
 
-      own-samples : (qx qy : ℕ) → SampleIn (n .w) across down qx qy → qx < k .limits .width → qy < k .limits .height → copies qx qy (take next (rowsOf t)) ≡ 1
-      own-samples qx qy q wide high =
+      own-full : Full (n .w) (k .limits .width) (k .limits .height) across down (take next (rowsOf t))
+      own-full qx qy q wide high =
           let c = this-cell in
           let z = fold-least (sh .side Vertical .fold) in
           let x = cell-between (n .w) (n .x) qx (omega arith) (at Vertical) (q .0 ∙ sym (c .0)) in
           let y = cell-between (n .w) (n .y) qy (omega arith) (rw square (at Horizontal)) (q .1 ∙ sym (c .1)) in
-          let e = tree-all sh t qx qy x (rw (← square) y) wide high in
+          let e = tree-all sh t qx qy x (rw (← square) y) (omega arith) (omega arith) in
           let s = copies-parts qx qy next (rowsOf t) in
           let d : copies qx qy (drop next (rowsOf t)) ≡ 0 = rw (drop-of-length-le (rowsOf t) at-end) (copies-zero qx qy []) in
           omega arith
 
     own-fills : Fills (k .limits .width) (k .limits .height) (n .w) (rowsOf t)
-    own-fills = record { where-once = λ o. record { all = λ across down next out px py p begun. own-samples across down next out px py p begun } }
+    own-fills = record { where-once = λ o. record { all = own-full } }
 
   -- ---- a node of whole cells
 
