@@ -61,6 +61,38 @@ impl Row {
     pub fn height(&self) -> u32 {
         1u32.checked_shl(self.height_exponent.into()).unwrap_or(0)
     }
+
+    /// The pipeline unit of this side that the row's corner is in: its number from the left and
+    /// from the top.
+    ///
+    /// Rows of one pipeline unit follow each other in a unit's table, and in the tables of a session
+    /// joined. So a table falls into groups, each of which is one whole pipeline unit, as far as it
+    /// lies in the picture, or one row that consists of several.
+    ///
+    /// ```
+    /// use colwythar::{read_unit, rows, Settings};
+    ///
+    /// // 128 by 128: the upper half as one row, the lower left quarter in halves, the last quarter.
+    /// let settings = Settings::from([128, 4, 8, 3, 128, 64, 128, 128]);
+    /// let mut table = [0; 8 * 4];
+    /// let flags = [1, 0, 0, 0, 1, 1, 0, 1, 0];
+    /// let count = read_unit(&settings, 0, &flags, &mut table)?;
+    /// let blocks: Vec<_> = rows(&table[..8 * count]).collect();
+    ///
+    /// let side = settings.pipeline_side();
+    /// let units = blocks.chunk_by(|a, b| a.pipeline_unit(side) == b.pipeline_unit(side));
+    /// let first: Vec<_> = units.map(|rows| (rows[0].pipeline_unit(side), rows.len())).collect();
+    /// assert_eq!(first, [((0, 0), 1), ((0, 1), 2), ((1, 1), 1)]);
+    /// # Ok::<(), colwythar::Refusal>(())
+    /// ```
+    ///
+    /// # Panics
+    ///
+    /// Where the side is 0, as no settings that pass have it.
+    #[inline]
+    pub fn pipeline_unit(&self, side: u32) -> (u32, u32) {
+        (u32::from(self.x) / side, u32::from(self.y) / side)
+    }
 }
 
 /// The rows of a table in order. Bytes after the last whole row are left out.

@@ -43,7 +43,9 @@ impl Settings {
     /// The side of the picture's pipeline units: the smaller of 64 and the CTU side.
     ///
     /// They are squares, laid side by side from (0, 0). Each row lies inside one of them or consists
-    /// of whole ones; with CTU side 32, no row leaves its own. Nothing is checked here.
+    /// of whole ones; with CTU side 32, no row leaves its own. They come one after the other: when a
+    /// row of another one appears, or the table ends, all samples of the former that lie in the
+    /// picture are there ([`Row::pipeline_unit`](crate::Row::pipeline_unit)). Nothing is checked here.
     ///
     /// ```
     /// use colwythar::Settings;

@@ -1,7 +1,7 @@
 //! One call on all three sides.
 
 use colwythar::{max_flags_of_rows, raw};
-use h266::{Answer, Row, Settings};
+use h266::{rows, Answer, Board, Settings};
 use samples::Rng;
 
 use crate::lent::Lent;
@@ -101,12 +101,22 @@ impl Engine {
     }
 }
 
-/// The rows of an accepted reading stay in pipeline units, and had no more flags than is planned.
+/// The rows of an accepted reading stay in pipeline units and come unit after unit, and had no more
+/// flags than is planned.
 fn assert_read(settings: &Settings, flags: &[u8], outcome: &Outcome) {
-    assert_in_pipeline(settings, &outcome.written);
     if outcome.number == 0 {
+        assert_in_pipeline(settings, &outcome.written);
+        assert_in_order(settings, &outcome.written);
         assert_planned(settings, outcome.value as usize, flags.len());
     }
+}
+
+/// The board can work with a table: each pipeline unit is complete before a row of another one.
+pub(crate) fn assert_in_order(settings: &Settings, table: &[u8]) {
+    let [.., width, height] = *settings;
+    let mut board = Board::new(h266::pipeline_side(settings), width, height);
+    let met = rows(table).try_for_each(|row| board.row(&row)).and_then(|()| board.start());
+    assert_eq!(met, Ok(()), "{settings:?}, {:?}", rows(table).collect::<Vec<_>>());
 }
 
 /// So many rows have no more flags than is planned for them, and than their CTU side has.
@@ -119,11 +129,10 @@ fn assert_planned(settings: &Settings, rows: usize, flags: usize) {
 
 /// Each row lies inside one pipeline unit or consists of whole ones; with a CTU side below 64, no
 /// row leaves its own.
-fn assert_in_pipeline(settings: &Settings, rows: &[u8]) {
+fn assert_in_pipeline(settings: &Settings, table: &[u8]) {
     let side = h266::pipeline_side(settings);
     assert_eq!(colwythar::Settings::from(*settings).pipeline_side(), side);
-    for bytes in rows.chunks_exact(8) {
-        let row = Row::from_bytes(bytes.try_into().expect("8 bytes"));
+    for row in rows(table) {
         let kept = if side < 64 { row.pipeline_units(side) == 1 } else { row.is_in_pipeline(side) };
         assert!(kept, "{row:?} leaves its pipeline unit of {side}: {settings:?}");
     }

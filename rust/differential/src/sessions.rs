@@ -4,6 +4,7 @@ use h266::{Params, Settings};
 use samples::{damage, settings, trees, Rng, Style};
 
 use crate::calls::ROOM;
+use crate::engine::assert_in_order;
 use crate::{Engine, UnitCall};
 
 /// The most units of a picture here.
@@ -30,6 +31,7 @@ pub fn picture(engine: &mut Engine, rng: &mut Rng) {
         }
     }
     assert_covered(&settings, &joined);
+    assert_in_order(&settings, &joined);
     after_the_end(engine, rng, &settings, due);
     forged(engine, rng, &settings);
 }

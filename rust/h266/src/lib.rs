@@ -25,6 +25,7 @@
 #![warn(missing_docs)]
 
 mod allowed;
+mod board;
 pub mod brute;
 pub mod check;
 mod join;
@@ -40,12 +41,13 @@ mod worth;
 mod write;
 
 pub use allowed::Allowed;
+pub use board::{Board, BoardFault, PipelineUnit};
 pub use node::Node;
 pub use params::Params;
 pub use pipeline::pipeline_side;
 pub use read::read_unit;
 pub use refusal::{Answer, Refusal};
-pub use row::Row;
+pub use row::{rows, Row};
 pub use session::{open, unit, unit_count};
 pub use split::Split;
 pub use worth::greatest_worth;

@@ -43,3 +43,8 @@ impl Row {
         (self.log2_cb_width, self.log2_cb_height)
     }
 }
+
+/// The rows of a table in order. Bytes after the last whole row are left out.
+pub fn rows(table: &[u8]) -> impl Iterator<Item = Row> + '_ {
+    table.as_chunks().0.iter().map(|bytes| Row::from_bytes(*bytes))
+}

@@ -1,12 +1,9 @@
 //! Pipeline units; what is expected was worked out by hand.
 
-use h266::{pipeline_side, Row};
+use h266::{pipeline_side, rows};
 use samples::paper::{examples, A};
 
-/// A row at this corner, with the exponents of its sides.
-fn row(x0: u16, y0: u16, log2_cb_width: u8, log2_cb_height: u8) -> Row {
-    Row { x0, y0, log2_cb_width, log2_cb_height, cqt_depth: 0, mtt_depth: 0 }
-}
+use crate::row;
 
 #[test]
 fn the_smaller_of_64_and_the_ctu_side() {
@@ -60,8 +57,7 @@ fn rows_that_leave() {
 fn document_01s_rows() {
     for example in examples() {
         let side = pipeline_side(&example.settings);
-        for bytes in example.rows.chunks_exact(8) {
-            let row = Row::from_bytes(bytes.try_into().expect("8 bytes"));
+        for row in rows(&example.rows) {
             assert!(row.is_in_pipeline(side), "{row:?}");
         }
     }
