@@ -68,3 +68,23 @@ module _ (px py : ℕ) where
   row-dropped (s ∷ rows) (suc i) zero e h = let k = row-dropped rows i 0 e (omega arith) in omega arith
   row-dropped (s ∷ rows) zero (suc n) e h = absurd (omega arith)
   row-dropped (s ∷ rows) (suc i) (suc n) e h = row-dropped rows i n e (omega arith)
+
+-- ---- tables that have each sample of a picture once at most, and no other
+
+pub record Once (width height : ℕ) (rows : List Row) : Type 0 where
+  pub most : (px py : ℕ) → copies px py rows ≤ 1
+  pub inside : (px py : ℕ) → 0 < copies px py rows → (px < width) × (py < height)
+
+module _ {width height : ℕ} {rows part : List Row} (less : (px py : ℕ) → copies px py part ≤ copies px py rows) where
+  once-part : Once width height rows → Once width height part
+  once-part o = record {
+    most = λ px py. let l = less px py in let m = o .most px py in omega arith;
+    inside = λ px py h. let l = less px py in o .inside px py (omega arith);
+  }
+
+module _ {width height : ℕ} (first rest : List Row) where
+  pub once-first : Once width height (first ++ rest) → Once width height first
+  once-first = once-part (λ px py. let e = copies-append px py first rest in omega arith)
+
+  pub once-rest : Once width height (first ++ rest) → Once width height rest
+  once-rest = once-part (λ px py. let e = copies-append px py first rest in omega arith)

@@ -34,8 +34,10 @@ pub mod Measure
 pub mod Meetings
 pub mod Multiples
 pub mod Near
+pub mod Numbered
 pub mod Opens
 pub mod Order
+pub mod OwnCell
 pub mod Parts
 pub mod Picture
 pub mod Pipeline
@@ -56,6 +58,7 @@ pub mod Steps
 pub mod Stops
 pub mod Tables
 pub mod Tests
+pub mod TreeSamples
 pub mod Turning
 pub mod Unique
 pub mod Walks

@@ -1,16 +1,12 @@
 -- R-14, proved: of a reading by the law of coding trees, of a list of calls by the laws of sessions.
 use Prim.Native.Nat.{ℕ}
-use mathlib.Core.Path.{_≡_, refl, sym}
-use mathlib.Core.List.{List}
+use mathlib.Core.Path.{refl, sym}
 use native.Mathlib.Omega.{arith}
 use Rattle.settings.specs.declared.Settings.{Settings}
 use Rattle.settings.specs.Units.{squareAt}
-use Rattle.tree.specs.Rows.{rowsAt}
 use Rattle.tree.specs.Tree.{rowsOf}
 use Rattle.laws.proofs.PipelineOrder.{tree-cell-by-cell}
-use Rattle.unit.specs.declared.Answer.the-variants.{Accepted}
 use Rattle.unit.specs.Luma.{kindOf}
-use Rattle.unit.specs.Reader.{readUnit}
 use Rattle.unit.specs.Exactly.{UnitTree}
 use Rattle.unit.proofs.Roots.{Root, root-of}
 use Rattle.unit.proofs.RoundTrips.{read-there, unit-accepted}

@@ -11,7 +11,8 @@ use Rattle.tree.specs.Splits.{bit}
 use Rattle.laws.specs.Every.{Every, every-none, every-more}
 use Rattle.laws.specs.Geometry.{copies}
 use Rattle.laws.specs.CellOrder.{CellByCell}
-use Rattle.laws.proofs.CellOrder.{Once, fills-joins, cell-by-cell}
+use Rattle.laws.proofs.Copies.{Once}
+use Rattle.laws.proofs.CellOrder.{fills-joins, cell-by-cell}
 use Rattle.sessions.specs.Lists as lists
 use Rattle.sessions.specs.Coding.{Coding}
 use Rattle.sessions.specs.Demand.{acceptedIn, joined, inPicture, inUnits}
