@@ -48,10 +48,10 @@ extern "C" {
 
 /* The side of the pipeline units, by the CTU side: the smaller of 64 and the CTU side. They are squares, laid side by side
  * from (0, 0). Proved: each row lies inside one of them or consists of whole ones; with CTU side 32, no row leaves its
- * own. Proved, too: they come one after the other. The rows that lie in one follow each other in the unit's table; and where
- * a row that does not lie in it follows, or the table ends, all of its samples that lie in the picture have come, each once,
- * and none comes later, also in the tables of a session one after the other. So a pipeline may start on one of them when
- * the first row of the next appears. */
+ * own. Proved, too: the rows that lie in one of them follow each other in the unit's table; and once a sample of one has
+ * come and the next row does not lie in it, or the table ends, all of its samples that lie in the picture have come, each
+ * once, and none comes later, also where the tables of a session follow each other. So a pipeline may start on one of them
+ * when the first row of the next appears. */
 #define COLWYTHAR_PIPELINE_SIDE(ctu) ((ctu) < 64 ? (ctu) : 64)
 
 /* The numbers of an answer. Within a group the first that fails, in the order of the numbers, is answered; but 11 and 12

@@ -1,4 +1,4 @@
--- Tables that have cells one after the other: where the parts of a table are such, it is; and the rows of a cell are then consecutive.
+-- Tables that have cells one after the other: a table whose parts are such is, where it has no sample twice; and the rows of a cell are then consecutive.
 use Prim.Native.Nat.{ℕ, _+_, _-_, _/_, _^_, _≤_, _<_}
 use mathlib.Core.Path.{_≡_, subst}
 use mathlib.Core.List.{List, [], _++_}
@@ -72,12 +72,12 @@ module _ (width height side : ℕ) where
     filled-join : Filled (first ++ rest)
     filled-join = record { all = in-either }
 
-  -- so what is joined of such tables is such a table, where it has each sample once at most
-  pub record Fills (rows : List Row) : Type 0 where
+  -- so joined tables are such where their parts are, in this form: with the premise that no sample is there twice
+  pub record FilledIfOnce (rows : List Row) : Type 0 where
     pub where-once : Once width height rows → Filled rows
 
-  pub fills-joins : Joins Fills
-  fills-joins = record {
+  pub filled-joins : Joins FilledIfOnce
+  filled-joins = record {
     empty = record { where-once = λ o. filled-none };
     join = λ {first} {rest} f g. record {
       where-once = λ o. filled-join first rest o (f .where-once (once-first first rest o)) (g .where-once (once-rest first rest o));
@@ -123,7 +123,7 @@ module _ (width height side : ℕ) where
             let b = begun-by y (drop j rows) (row-dropped _ _ rows k j (y .is) (omega arith)) in
             absurd (none-later across down j (f .all across down j out a) b)
 
-  pub cell-by-cell : {rows : List Row} → Once width height rows → Fills rows → CellByCell side width height rows
+  pub cell-by-cell : {rows : List Row} → Once width height rows → FilledIfOnce rows → CellByCell side width height rows
   cell-by-cell {rows} o f =
       let g = f .where-once o in
       record {

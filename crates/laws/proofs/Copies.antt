@@ -12,8 +12,9 @@ use Rattle.laws.specs.Geometry.{rectangle, copies}
 use Rattle.laws.proofs.Tests.{never}
 use Rattle.laws.proofs.Cover.{span-in}
 
--- ---- rows, each with its samples
+-- ---- one row
 
+-- 1 where the row has the sample (px, py), else 0
 abbrev pub inRow : Row → ℕ → ℕ → ℕ
 inRow r px py = rectangle (r .x) (r .y) (2 ^ r .ew) (2 ^ r .eh) px py
 

@@ -26,7 +26,7 @@ use Rattle.laws.proofs.Order.{Within, tree-within}
 use Rattle.laws.proofs.Rectangles.{Between}
 use Rattle.laws.proofs.Copies.{copies-zero, copies-parts}
 use Rattle.laws.proofs.Numbered.{every-at}
-use Rattle.laws.proofs.CellOrder.{Fills}
+use Rattle.laws.proofs.CellOrder.{FilledIfOnce}
 use Rattle.laws.proofs.TreeSamples.{in-node, tree-all}
 use Rattle.laws.proofs.Pipeline.{in-one}
 
@@ -106,5 +106,5 @@ module _ (k : Kind) (cb : 4 ≤ k .limits .mincb) (qt : 4 ≤ k .limits .minqt) 
         let d : copies qx qy (drop next (rowsOf t)) ≡ 0 = rw (drop-of-length-le (rowsOf t) at-end) (copies-zero qx qy []) in
         omega arith
 
-  pub own-fills : Fills (k .limits .width) (k .limits .height) (n .w) (rowsOf t)
-  own-fills = record { where-once = λ o. record { all = full } }
+  pub own-filled : FilledIfOnce (k .limits .width) (k .limits .height) (n .w) (rowsOf t)
+  own-filled = record { where-once = λ o. record { all = full } }

@@ -25,9 +25,9 @@ use Rattle.laws.proofs.Shape.{Shape}
 use Rattle.laws.proofs.Joins.{Joins}
 use Rattle.laws.proofs.Rectangles.{rectangle-in, in-rectangle}
 use Rattle.laws.proofs.Copies.{inRow, copies-none}
-use Rattle.laws.proofs.CellOrder.{Fills, fills-joins, cell-by-cell}
+use Rattle.laws.proofs.CellOrder.{FilledIfOnce, filled-joins, cell-by-cell}
 use Rattle.laws.proofs.TreeSamples.{tree-once}
-use Rattle.laws.proofs.OwnCell.{own-fills}
+use Rattle.laws.proofs.OwnCell.{own-filled}
 use Rattle.laws.proofs.Pipeline.{side-to-64, side-from-64, Whole, whole-leaf, whole-kids, square-whole}
 
 -- ---- a row of whole cells: it has all samples of each
@@ -50,8 +50,8 @@ module _ (width height : ℕ) {r : Row} (w : OfWholeCells 64 r) where
       let e = whole-samples w px py qx qy same (omega arith) in
       omega arith
 
-  row-fills : Fills width height 64 (r ∷ [])
-  row-fills = record {
+  row-filled : FilledIfOnce width height 64 (r ∷ [])
+  row-filled = record {
     where-once = λ o. record {
       all = λ across down next out b qx qy q wide high.
           let p = b .sample in
@@ -62,57 +62,57 @@ module _ (width height : ℕ) {r : Row} (w : OfWholeCells 64 r) where
 module _ (k : Kind) (cb : 4 ≤ k .limits .mincb) (qt : 4 ≤ k .limits .minqt) where
   -- ---- a node of whole cells
 
-  abbrev Fills64 : List Row → Type 0
-  Fills64 rows = Fills (k .limits .width) (k .limits .height) 64 rows
+  abbrev Filled64 : List Row → Type 0
+  Filled64 rows = FilledIfOnce (k .limits .width) (k .limits .height) 64 rows
 
-  joins : Joins Fills64
-  joins = fills-joins _ _ 64
+  joins : Joins Filled64
+  joins = filled-joins _ _ 64
 
-  own-row-fills : (n : Node) → Whole n → (d : Decision) → Fills64 (ownRows n d)
+  own-row-filled : (n : Node) → Whole n → (d : Decision) → Filled64 (ownRows n d)
   unfolding ownRows
-  own-row-fills n w Leaf = row-fills _ _ (whole-leaf n w)
-  own-row-fills n w Quad = joins .empty
-  own-row-fills n w (Binary d) = joins .empty
-  own-row-fills n w (Ternary d) = joins .empty
+  own-row-filled n w Leaf = row-filled _ _ (whole-leaf n w)
+  own-row-filled n w Quad = joins .empty
+  own-row-filled n w (Binary d) = joins .empty
+  own-row-filled n w (Ternary d) = joins .empty
 
   -- one that is one cell
-  one-fills : (n : Node) → Whole n → max (n .w) (n .h) ≤ 64 → (t : Tree k n) → Fills64 (rowsOf t)
-  one-fills n w small t =
+  one-filled : (n : Node) → Whole n → max (n .w) (n .h) ≤ 64 → (t : Tree k n) → Filled64 (rowsOf t)
+  one-filled n w small t =
       let a = fold-least (w .grid .side Vertical) in
       let b = fold-least (w .grid .side Horizontal) in
       let e : n .w ≡ 64 = omega arith in
-      subst (λ c. Fills (k .limits .width) (k .limits .height) c (rowsOf t)) e (own-fills k cb qt (w .shape) (omega arith) (at (omega arith) (omega arith)) t)
+      subst (λ c. FilledIfOnce (k .limits .width) (k .limits .height) c (rowsOf t)) e (own-filled k cb qt (w .shape) (omega arith) (at (omega arith) (omega arith)) t)
     where
       at : n .w ≡ 64 → n .h ≡ 64 → (e : Direction) → Multiple (along e n) (corner e n)
       at x y Horizontal = rw y (w .grid .at Horizontal)
       at x y Vertical = rw x (w .grid .at Vertical)
 
   -- a longer one has children of whole cells
-  node-fills : (n : Node) → Whole n → (d : Decision) (here : cornerInside (k .limits) n ≡ true) (ok : allows (rightsOf k n) d ≡ true) (kids : Trees k (children (k .limits) n d))
-      → (Every Whole (children (k .limits) n d) → Fills64 (rowsOf kids)) → Fills64 (ownRows n d ++ rowsOf kids)
+  node-filled : (n : Node) → Whole n → (d : Decision) (here : cornerInside (k .limits) n ≡ true) (ok : allows (rightsOf k n) d ≡ true) (kids : Trees k (children (k .limits) n d))
+      → (Every Whole (children (k .limits) n d) → Filled64 (rowsOf kids)) → Filled64 (ownRows n d ++ rowsOf kids)
   unfolding rowsOf
-  node-fills n w d here ok kids below = go (decLt 64 (max (n .w) (n .h)))
+  node-filled n w d here ok kids below = go (decLt 64 (max (n .w) (n .h)))
     where
-      go : Dec (64 < max (n .w) (n .h)) → Fills64 (ownRows n d ++ rowsOf kids)
-      go (yes long) = joins .join (own-row-fills n w d) (below (whole-kids k cb qt n w long d ok))
-      go (no long) = rw append-nil at (one-fills n w (omega arith) (node d here ok kids none))
+      go : Dec (64 < max (n .w) (n .h)) → Filled64 (ownRows n d ++ rowsOf kids)
+      go (yes long) = joins .join (own-row-filled n w d) (below (whole-kids k cb qt n w long d ok))
+      go (no long) = rw append-nil at (one-filled n w (omega arith) (node d here ok kids none))
 
-  whole-fills : {ns : List Node} (t : Trees k ns) → Every Whole ns → Fills64 (rowsOf t)
+  whole-filled : {ns : List Node} (t : Trees k ns) → Every Whole ns → Filled64 (rowsOf t)
   unfolding rowsOf
-  whole-fills none ws = joins .empty
-  whole-fills (skip out rest) (every-more w ws) = whole-fills rest ws
-  whole-fills (node {n = n} d here ok kids rest) (every-more w ws) = joins .join (node-fills n w d here ok kids (whole-fills kids)) (whole-fills rest ws)
+  whole-filled none ws = joins .empty
+  whole-filled (skip out rest) (every-more w ws) = whole-filled rest ws
+  whole-filled (node {n = n} d here ok kids rest) (every-more w ws) = joins .join (node-filled n w d here ok kids (whole-filled kids)) (whole-filled rest ws)
 
   -- ---- a square at a multiple of its side, as a unit is
 
   module _ {n : Node} (sh : Shape n) (square : n .w ≡ n .h) (at : (e : Direction) → Multiple (along e n) (corner e n)) (t : Tree k n) where
-    pub tree-fills : Fills (k .limits .width) (k .limits .height) (pipelineSide (n .w)) (rowsOf t)
-    tree-fills = go (decLt 64 (n .w))
+    pub tree-filled : FilledIfOnce (k .limits .width) (k .limits .height) (pipelineSide (n .w)) (rowsOf t)
+    tree-filled = go (decLt 64 (n .w))
       where
-        go : Dec (64 < n .w) → Fills (k .limits .width) (k .limits .height) (pipelineSide (n .w)) (rowsOf t)
-        go (yes h) = rw (side-from-64 (n .w) (omega arith)) (whole-fills t (every-more (square-whole sh square at h) every-none))
-        go (no h) = rw (side-to-64 (n .w) (omega arith)) (own-fills k cb qt sh square at t)
+        go : Dec (64 < n .w) → FilledIfOnce (k .limits .width) (k .limits .height) (pipelineSide (n .w)) (rowsOf t)
+        go (yes h) = rw (side-from-64 (n .w) (omega arith)) (whole-filled t (every-more (square-whole sh square at h) every-none))
+        go (no h) = rw (side-to-64 (n .w) (omega arith)) (own-filled k cb qt sh square at t)
 
     -- R-14's law of one tree
     pub tree-cell-by-cell : {side : ℕ} → side ≡ pipelineSide (n .w) → CellByCell side (k .limits .width) (k .limits .height) (rowsOf t)
-    tree-cell-by-cell e = rw e (cell-by-cell _ _ _ (tree-once k cb qt sh t) tree-fills)
+    tree-cell-by-cell e = rw e (cell-by-cell _ _ _ (tree-once k cb qt sh t) tree-filled)

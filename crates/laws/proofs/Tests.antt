@@ -1,7 +1,10 @@
 -- General laws of Boolean tests that `sides` does not have.
+use Prim.Native.Nat.{ℕ, _≤_}
 use mathlib.Core.Path.{_≡_, refl}
 use mathlib.Core.Bool.{Bool, true, false, not, _&&_, _||_}
+use native.Mathlib.Omega.{arith}
 use Rattle.sides.proofs.Bools.{clash, same}
+use Rattle.tree.specs.Splits.{bit}
 
 -- from equations in scope that clash, `cc` proves this one
 pub never : {A : Type 0} → _≡_ {A = Bool} true false → A
@@ -43,3 +46,9 @@ implies-intro false b h = refl
 pub implies-use : (a b : Bool) → implies a b ≡ true → a ≡ true → b ≡ true
 implies-use true b h e = h
 implies-use false b h e = clash e refl
+
+-- ---- a test as a number
+
+pub bit-most : (a : Bool) (k : ℕ) → bit a k ≤ k
+bit-most true k = omega arith
+bit-most false k = omega arith

@@ -41,7 +41,8 @@ pub record CellByCell (side width height : ℕ) (rows : List Row) : Type 0 where
   pub consecutive : (across down i j k : ℕ) → i < j → j < k → RowAt (RowIn side across down) rows i
       → RowAt (RowIn side across down) rows k → RowAt (RowIn side across down) rows j
   -- "when the first row of the next one appears": where row number `next` does not lie in a cell, or the table ends before
-  -- it, and the rows before it have a sample of the cell, they have all of its samples, and no later row has one
+  -- it, and the rows before it have a sample of the cell, they have each of its samples in the picture, once, and neither
+  -- row `next` nor one after it has any
   pub complete : (across down next : ℕ) → ¬ RowAt (RowIn side across down) rows next
       → Begun side across down (take next rows)
       → Full side width height across down (take next rows) × ¬ Begun side across down (drop next rows)

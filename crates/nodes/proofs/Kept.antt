@@ -19,7 +19,7 @@ use Rattle.laws.proofs.Parts.{Piece, no-piece}
 use Rattle.nodes.specs.Tables.{tableOf}
 use Rattle.nodes.specs.Words.{nodeIn, keptAbove, keptBelow, cutsOf, keptUnder}
 use Rattle.nodes.specs.Stands.{Stands, word, keeps}
-use Rattle.nodes.proofs.MaskLaws.{bit-most}
+use Rattle.laws.proofs.Tests.{bit-most}
 use Rattle.nodes.proofs.RowFields.{row-says, kept-says, node-back}
 
 -- the cuts of a node, from the binary ones that are closed

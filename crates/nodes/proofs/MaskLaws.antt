@@ -1,5 +1,5 @@
 -- Numbers of open splits in the operation `bitAnd`.
-use Prim.Native.Nat.{ℕ, _+_, _*_, _<_, _≤_}
+use Prim.Native.Nat.{ℕ, _+_, _*_, _<_}
 use mathlib.Core.Path.{_≡_, refl, ap, _∙_}
 use mathlib.Core.Bool.{Bool, true, false, not, _&&_}
 use lib.Dec.{eqb}
@@ -7,6 +7,7 @@ use lib.Bits.{bitAnd, and-block, and-zero-r}
 use native.Mathlib.Omega.{arith}
 use Rattle.tree.specs.declared.Direction.the-variants.{Horizontal, Vertical}
 use Rattle.tree.specs.Splits.{bit, has, Rights, openSplits}
+use Rattle.laws.proofs.Tests.{bit-most}
 
 -- what two rights both leave open
 abbrev pub both : Rights → Rights → Rights
@@ -16,10 +17,6 @@ both a b = record {
   binary = λ d. a .binary d && b .binary d;
   ternary = λ d. a .ternary d && b .ternary d;
 }
-
-pub bit-most : (a : Bool) (k : ℕ) → bit a k ≤ k
-bit-most true k = omega arith
-bit-most false k = omega arith
 
 pub bit-is : (a : Bool) (k : ℕ) → bit a k ≡ bit a 1 * k
 bit-is true k = omega arith

@@ -16,7 +16,8 @@ use Rattle.laws.proofs.Sides.{One, one-of}
 use Rattle.nodes.specs.Words.{nodeIn}
 use Rattle.nodes.specs.Stands.{Stands, word, keeps}
 use Rattle.nodes.proofs.Sides.{exponent-of}
-use Rattle.nodes.proofs.MaskLaws.{bit-most, splits-small}
+use Rattle.laws.proofs.Tests.{bit-most}
+use Rattle.nodes.proofs.MaskLaws.{splits-small}
 
 -- ---- six numbers at their places in one
 

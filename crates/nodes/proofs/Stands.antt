@@ -29,7 +29,7 @@ use Rattle.laws.proofs.Shape.{Shape, side-four}
 use Rattle.nodes.specs.Tables.{tableOf}
 use Rattle.nodes.specs.Words.{childRow, keptAbove, keptUnder}
 use Rattle.nodes.specs.Stands.{Inner, Stands, AllStand, no-more, one-more, word, kidWords}
-use Rattle.nodes.proofs.MaskLaws.{bit-most}
+use Rattle.laws.proofs.Tests.{bit-most}
 use Rattle.nodes.proofs.RowFields.{fits-of}
 use Rattle.nodes.proofs.ChildRows.{child-row}
 use Rattle.nodes.proofs.Kept.{above-kept, child-kept}

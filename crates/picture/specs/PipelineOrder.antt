@@ -15,16 +15,15 @@ use Rattle.picture.specs.declared.Opened.the-variants.{Fresh}
 use Rattle.picture.specs.Session.{Call, opening}
 use Rattle.picture.specs.Lists.{rowsOfUnit, acceptedIn, joined}
 
--- "the rows lying in one pipeline unit are consecutive in its table", and when a row of another one appears, the samples of
--- the former are all there
+-- of a table, by the settings
 abbrev pub InPipelineOrder : Settings → List Row → Type 0
 InPipelineOrder s rows = CellByCell (pipelineSide (s .ctu)) (s .width) (s .height) rows
 
 -- after a list of calls, by the units accepted in it
 pub record OrderAfter (s : Settings) (t : Session) (calls : List Call) : Type 0 where
-  -- the table of each unit: "the rows that the call wrote", in its buffer "as they stood when that call ended"
+  -- the table of each unit, as its call left it
   pub each : Every (λ u. InPipelineOrder s (rowsOfUnit u)) (acceptedIn t calls)
-  -- the joined table: a unit's last pipeline unit is complete when the first row of the next unit appears
+  -- the joined table: a later unit brings no sample of a pipeline unit that is complete
   pub all : InPipelineOrder s (joined (acceptedIn t calls))
 
 pub record PipelineOrder : Type 0 where

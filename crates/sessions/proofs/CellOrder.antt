@@ -1,5 +1,5 @@
 -- R-14 for every coding that has the laws: the tables of units have the pipeline units one after the other.
-use Prim.Native.Nat.{ℕ, _≤_, _<_}
+use Prim.Native.Nat.{ℕ, _<_}
 use mathlib.Core.Path.{_≡_, refl, ap, _∙_}
 use mathlib.Core.Bool.{Bool, true, false}
 use mathlib.Core.List.{List, append-nil}
@@ -11,28 +11,25 @@ use Rattle.tree.specs.Splits.{bit}
 use Rattle.laws.specs.Every.{Every, every-none, every-more}
 use Rattle.laws.specs.Geometry.{copies}
 use Rattle.laws.specs.CellOrder.{CellByCell}
+use Rattle.laws.proofs.Tests.{bit-most}
 use Rattle.laws.proofs.Copies.{Once}
-use Rattle.laws.proofs.CellOrder.{fills-joins, cell-by-cell}
+use Rattle.laws.proofs.CellOrder.{filled-joins, cell-by-cell}
 use Rattle.sessions.specs.Lists as lists
 use Rattle.sessions.specs.Coding.{Coding}
 use Rattle.sessions.specs.Demand.{acceptedIn, joined, inPicture, inUnits}
-use Rattle.sessions.proofs.Parts.{part-fills}
+use Rattle.sessions.proofs.Parts.{part-filled}
 use Rattle.sessions.proofs.Laws.{Laws}
 use Rattle.sessions.proofs.Units.{no-units, a-unit, Read, ReadFrom, accepted-units}
 use Rattle.sessions.proofs.Covered.{units-covered}
 use Rattle.sessions.proofs.Complete.{none-outside}
 use Rattle.sessions.proofs.Demand.{units-joined}
 
-bit-most : (b : Bool) → bit b 1 ≤ 1
-bit-most true = omega arith
-bit-most false = omega arith
-
 module _ {g : Coding} {first : ℕ} {next : ℕ → ℕ} {Due : ℕ → g .Session → Type 0} (l : Laws g first next Due)
     (i : g .Table) where
   -- the joined table has each sample of the picture once at most, and no other
   units-once : {a : ℕ} {us : List (g .Taken)} → ReadFrom l a us → Once (g .width) (g .height) (joined g i us)
   units-once {us = us} units = record {
-    most = λ px py. let e = units-covered l px py i units in let b = bit-most (inUnits g us px py) in omega arith;
+    most = λ px py. let e = units-covered l px py i units in let b = bit-most (inUnits g us px py) 1 in omega arith;
     inside = λ px py h. go px py h (inPicture g px py) refl;
   }
     where
@@ -49,7 +46,7 @@ module _ {g : Coding} {first : ℕ} {next : ℕ → ℕ} {Due : ℕ → g .Sessi
 
   units-cells : {a : ℕ} {us : List (g .Taken)} → ReadFrom l a us
       → CellByCell (g .cell) (g .width) (g .height) (joined g i us)
-  units-cells units = cell-by-cell _ _ _ (units-once units) (units-joined l (fills-joins _ _ _) (λ p. part-fills) i units)
+  units-cells units = cell-by-cell _ _ _ (units-once units) (units-joined l (filled-joins _ _ _) (λ p. part-filled) i units)
 
   -- one unit is a list of one
   unit-cells : {a : ℕ} {u : g .Taken} → Read l a u → Cells u

@@ -19,8 +19,8 @@ use Rattle.sessions.proofs.Complete.{units-complete}
 use Rattle.sessions.proofs.Legible.{flags-legible, rows-legible}
 
 module _ {g : Coding} {first : ℕ} {next : ℕ → ℕ} {Due : ℕ → g .Session → Type 0} (l : Laws g first next Due) where
-  -- what the rows of a good part's tree have, and joined tables where their parts have it, the rows of a unit have, and
-  -- the joined table of units
+  -- A property that joined tables have where their parts have it: where the rows of each good part's tree have it, so
+  -- do a unit's rows, and the joined table of units.
   module _ {F : List Row → Type 0} (joins : Joins F)
       (of-part : (p : UnitPart (g .Table)) → GoodPart (g .width) (g .height) (g .cell) p → (t : Tree (p .kind) (p .root))
       → F (rowsOf t)) (i : g .Table) where
@@ -52,4 +52,5 @@ module _ {g : Coding} {first : ℕ} {next : ℕ → ℕ} {Due : ℕ → g .Sessi
   -- where pipeline units are smaller than 64 by 64, no row leaves its own
   pub after-inside : {t : g .Session} → Due first t → g .cell < 64 → (calls : List (g .Call)) (i : g .Table)
       → Every (InOneCell (g .cell)) (joined g i (acceptedIn g t calls))
-  after-inside d small calls i = units-joined (every-joins (InOneCell (g .cell))) (λ p s. part-inside s small) i (accepted-units l d calls)
+  after-inside d small calls i =
+      units-joined (every-joins (InOneCell (g .cell))) (λ p s. part-inside s small) i (accepted-units l d calls)

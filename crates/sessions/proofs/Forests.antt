@@ -59,7 +59,8 @@ module _ {Table : Type 0} where
             one true = part-covered s t px py
             one false = omega arith
 
-        -- what the rows of a good part's tree have, and joined tables where their parts have it, the rows of the forest have
+        -- A property that joined tables have where their parts have it: where the rows of each good part's tree have it,
+        -- so do those of the forest.
         pub forest-joined : {F : List Row → Type 0} → Joins F
             → ((p : UnitPart Table) → GoodPart p → (t : Tree (p .kind) (p .root)) → F (rowsOf t))
             → {ps : List (UnitPart Table)} → Every GoodPart ps → (t : Forest ps) → F (forestRows same i t)

@@ -21,8 +21,8 @@ use Rattle.laws.proofs.Multiples.{Multiple}
 use Rattle.laws.proofs.Shape.{Shape}
 use Rattle.laws.proofs.Cover as cover
 use Rattle.laws.proofs.Pipeline.{in-one, in-pipeline}
-use Rattle.laws.proofs.CellOrder.{Fills}
-use Rattle.laws.proofs.PipelineOrder.{tree-fills}
+use Rattle.laws.proofs.CellOrder.{FilledIfOnce}
+use Rattle.laws.proofs.PipelineOrder.{tree-filled}
 use Rattle.laws.proofs.Turning.{TurningIsTree, kind-turning}
 
 -- What the laws ask of a kind and a root: smallest sides of 4 and more, the picture's sides, a square at a multiple of
@@ -54,9 +54,9 @@ module _ {width height cell : ℕ} {k : Kind} {n : Node} (s : GoodRoot width hei
       rw own (in-one k (s .leastCb) (s .leastQt) (s .shape) (s .square) (s .at) t (n .w) (s .shape .side Vertical .fold) (omega arith))
 
   -- R-14
-  pub part-fills : (t : Tree k n) → Fills width height cell (rowsOf t)
-  part-fills t =
-      rw (← s .wide, ← s .high, s .pipeline) (tree-fills k (s .leastCb) (s .leastQt) (s .shape) (s .square) (s .at) t)
+  pub part-filled : (t : Tree k n) → FilledIfOnce width height cell (rowsOf t)
+  part-filled t =
+      rw (← s .wide, ← s .high, s .pipeline) (tree-filled k (s .leastCb) (s .leastQt) (s .shape) (s .square) (s .at) t)
 
   turning : cornerInside (k .limits) n ≡ true → TurningIsTree k n
   turning here = kind-turning k (s .leastCb) (s .leastQt) n (s .shape) here (s .fits)

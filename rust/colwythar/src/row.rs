@@ -62,8 +62,8 @@ impl Row {
         1u32.checked_shl(self.height_exponent.into()).unwrap_or(0)
     }
 
-    /// The pipeline unit of this side that the row's corner is in: its number from the left and
-    /// from the top.
+    /// The pipeline unit of this side that the row's corner is in: how many there are to its left
+    /// and above it.
     ///
     /// Rows of one pipeline unit follow each other in a unit's table, and in the tables of a session
     /// joined. So a table falls into groups, each of which is one whole pipeline unit, as far as it
@@ -81,8 +81,8 @@ impl Row {
     ///
     /// let side = settings.pipeline_side();
     /// let units = blocks.chunk_by(|a, b| a.pipeline_unit(side) == b.pipeline_unit(side));
-    /// let first: Vec<_> = units.map(|rows| (rows[0].pipeline_unit(side), rows.len())).collect();
-    /// assert_eq!(first, [((0, 0), 1), ((0, 1), 2), ((1, 1), 1)]);
+    /// let groups: Vec<_> = units.map(|rows| (rows[0].pipeline_unit(side), rows.len())).collect();
+    /// assert_eq!(groups, [((0, 0), 1), ((0, 1), 2), ((1, 1), 1)]);
     /// # Ok::<(), colwythar::Refusal>(())
     /// ```
     ///

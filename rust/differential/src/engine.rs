@@ -101,11 +101,11 @@ impl Engine {
     }
 }
 
-/// The rows of an accepted reading stay in pipeline units and come unit after unit, and had no more
-/// flags than is planned.
+/// The rows of an accepted reading stay in pipeline units and come one such unit after the other,
+/// and had no more flags than is planned.
 fn assert_read(settings: &Settings, flags: &[u8], outcome: &Outcome) {
+    assert_in_pipeline(settings, &outcome.written);
     if outcome.number == 0 {
-        assert_in_pipeline(settings, &outcome.written);
         assert_in_order(settings, &outcome.written);
         assert_planned(settings, outcome.value as usize, flags.len());
     }

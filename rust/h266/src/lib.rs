@@ -5,6 +5,7 @@
 //! Each node is a [`Node`], its splits are [`Allowed::of`] it, and one recursion in each direction
 //! walks the tree, so that it can be held beside the clauses. It is the other side of the
 //! differential tests and, as safe Rust without special tricks, the yardstick of the benchmark.
+//! [`Board`], which takes tables as the customer's board does, is written from document 02.
 //!
 //! The four calls make the same promises as the engine's C interface. An answer is a pair: 0 and a
 //! count where the call is accepted, else the number of the refusal and its place. A refused call

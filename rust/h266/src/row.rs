@@ -45,6 +45,12 @@ impl Row {
 }
 
 /// The rows of a table in order. Bytes after the last whole row are left out.
+///
+/// ```
+/// let table = [0, 0, 0, 0, 5, 5, 1, 0, 32, 0, 0, 0, 5, 5, 1, 0];
+/// let edges: Vec<_> = h266::rows(&table).map(|row| row.x0).collect();
+/// assert_eq!(edges, [0, 32]);
+/// ```
 pub fn rows(table: &[u8]) -> impl Iterator<Item = Row> + '_ {
     table.as_chunks().0.iter().map(|bytes| Row::from_bytes(*bytes))
 }

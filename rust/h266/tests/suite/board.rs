@@ -41,11 +41,23 @@ fn units_that_are_left_too_early() {
 }
 
 #[test]
-fn units_that_come_again() {
+fn samples_that_come_again() {
     let again = |unit| Some(BoardFault::Again(unit));
-    let rows = [row(0, 0, 6, 6), row(64, 0, 6, 6), row(0, 0, 3, 3)];
-    assert_eq!(fault(64, (128, 64), &rows), again((0, 0)));
+    let whole = row(0, 0, 6, 6);
+    assert_eq!(fault(64, (128, 64), &[whole, whole]), again((0, 0)));
+    assert_eq!(fault(64, (128, 64), &[whole, row(64, 0, 6, 6), row(0, 0, 3, 3)]), again((0, 0)));
     assert_eq!(fault(64, (128, 64), &[row(64, 0, 6, 6), row(0, 0, 7, 6)]), again((1, 0)));
+    // As many samples as the unit has, and half of them missing.
+    assert_eq!(fault(64, (64, 64), &[row(0, 0, 5, 6), row(0, 0, 5, 6)]), again((0, 0)));
+}
+
+#[test]
+fn rows_out_of_the_picture() {
+    for row in
+        [row(64, 0, 3, 3), row(60, 0, 3, 3), row(0, 60, 3, 3), row(0, 0, 7, 6), row(0, 0, 200, 2)]
+    {
+        assert_eq!(fault(64, (64, 64), &[row]), Some(BoardFault::Outside), "{row:?}");
+    }
 }
 
 /// Other sides than R-4's: the tables are those of coding trees.

@@ -1,4 +1,4 @@
-use Rattle.nodes.proofs.MaskLaws.{bit-most}
+use Rattle.laws.proofs.Tests.{bit-most}
 use Rattle.tree.specs.Splits.{outAlong}
 use borrow.Author.Needs.{needs}
 use Rattle.nodes.proofs.children.lift.Statement.{statement}
