@@ -12,6 +12,12 @@ use Rattle.laws.proofs.Joins.{Joins}
 use Rattle.laws.proofs.Numbered.{at-front, at-past, at-known}
 use Rattle.laws.proofs.Copies.{inRow, own-corner, copies-append, copies-take, copies-zero, copies-none, copies-parts, row-taken, row-dropped, Once, once-first, once-rest}
 
+-- what is two things is known where both are
+both-known : {A B R : Type 0} → (A → B → R) → (R → A) → (R → B) → Dec A → Dec B → Dec R
+both-known both first second (yes a) (yes b) = yes (both a b)
+both-known both first second (no a) b = no (λ r. a (first r))
+both-known both first second (yes a) (no b) = no (λ r. b (second r))
+
 module _ (width height side : ℕ) where
   -- ---- `complete` of `CellByCell`, as far as the rows before a number go
 
@@ -87,15 +93,10 @@ module _ (width height side : ℕ) where
   -- ---- `consecutive`: a row of the cell after a row that is not of it would have a sample of the cell again
 
   row-in : (across down : ℕ) (r : Row) → Dec (RowIn side across down r)
-  row-in across down r = go (ℕ-discrete (r .x / side) across) (ℕ-discrete (r .y / side) down) (ℕ-discrete (r .x / side) _) (ℕ-discrete (r .y / side) _)
-    where
-      go : Dec (r .x / side ≡ across) → Dec (r .y / side ≡ down) → Dec (r .x / side ≡ (r .x + 2 ^ r .ew - 1) / side)
-          → Dec (r .y / side ≡ (r .y + 2 ^ r .eh - 1) / side) → Dec (RowIn side across down r)
-      go (yes a) (yes b) (yes c) (yes d) = yes (record { one = record { across = c; down = d }; corner = (a, b) })
-      go (no a) b c d = no (λ i. a (i .corner .0))
-      go (yes a) (no b) c d = no (λ i. b (i .corner .1))
-      go (yes a) (yes b) (no c) d = no (λ i. c (i .one .across))
-      go (yes a) (yes b) (yes c) (no d) = no (λ i. d (i .one .down))
+  row-in across down r =
+      both-known (λ one corner. record { one = one; corner = corner }) (λ i. i .one) (λ i. i .corner)
+      (both-known (λ a b. record { across = a; down = b }) (λ i. i .across) (λ i. i .down) (ℕ-discrete _ _) (ℕ-discrete _ _))
+      (both-known (λ a b. (a, b)) (λ i. i .0) (λ i. i .1) (ℕ-discrete _ _) (ℕ-discrete _ _))
 
   module _ (rows : List Row) (o : Once width height rows) (f : Filled rows) where
     none-later : (across down next : ℕ) → Full side width height across down (take next rows) → ¬ Begun side across down (drop next rows)
