@@ -1,5 +1,5 @@
 -- Tables that have cells one after the other: a table whose parts are such is, where it has no sample twice; and the rows of a cell are then consecutive.
-use Prim.Native.Nat.{ℕ, _+_, _-_, _/_, _^_, _≤_, _<_}
+use Prim.Native.Nat.{ℕ, _+_, _-_, _≤_, _<_}
 use mathlib.Core.Path.{_≡_, subst}
 use mathlib.Core.List.{List, [], _++_}
 use lib.ListN.{length, take, drop}
