@@ -10,19 +10,18 @@ use Rattle.tree.specs.declared.Node.{Node}
 use Rattle.tree.specs.declared.Direction.{Direction}
 use Rattle.tree.specs.declared.Direction.the-variants.{Horizontal, Vertical}
 use Rattle.tree.specs.declared.Decision.{Decision}
-use Rattle.tree.specs.declared.Decision.the-variants.{Leaf, Quad, Binary, Ternary}
 use Rattle.tree.specs.Kind.{Kind}
 use Rattle.tree.specs.Splits.{along, rightsOf, allows}
 use Rattle.tree.specs.Children.{children, cornerInside}
 use Rattle.tree.specs.Rows.{Row, ownRows}
-use Rattle.tree.specs.Tree.{Trees, Tree, none, skip, node, rowsOf}
+use Rattle.tree.specs.Tree.{Trees, Tree, none, node, rowsOf}
 use Rattle.laws.specs.Geometry.{copies, OfWholeCells, pipelineSide}
 use Rattle.laws.specs.Every.{Every, every-none, every-more}
 use Rattle.laws.specs.CellOrder.{CellByCell}
 use Rattle.laws.proofs.Directions.{corner}
 use Rattle.laws.proofs.Multiples.{Multiple, fold-least}
 use Rattle.laws.proofs.Shape.{Shape}
-use Rattle.laws.proofs.Joins.{Joins}
+use Rattle.laws.proofs.Joins.{Joins, own-joined, tree-joined}
 use Rattle.laws.proofs.Rectangles.{rectangle-in, in-rectangle}
 use Rattle.laws.proofs.Copies.{inRow, copies-none}
 use Rattle.laws.proofs.CellOrder.{FilledIfOnce, filled-joins, cell-by-cell}
@@ -68,13 +67,6 @@ module _ (k : Kind) (cb : 4 ≤ k .limits .mincb) (qt : 4 ≤ k .limits .minqt) 
   joins : Joins Filled64
   joins = filled-joins _ _ 64
 
-  own-row-filled : (n : Node) → Whole n → (d : Decision) → Filled64 (ownRows n d)
-  unfolding ownRows
-  own-row-filled n w Leaf = row-filled _ _ (whole-leaf n w)
-  own-row-filled n w Quad = joins .empty
-  own-row-filled n w (Binary d) = joins .empty
-  own-row-filled n w (Ternary d) = joins .empty
-
   -- one that is one cell
   one-filled : (n : Node) → Whole n → max (n .w) (n .h) ≤ 64 → (t : Tree k n) → Filled64 (rowsOf t)
   one-filled n w small t =
@@ -88,20 +80,14 @@ module _ (k : Kind) (cb : 4 ≤ k .limits .mincb) (qt : 4 ≤ k .limits .minqt) 
       at x y Vertical = rw x (w .grid .at Vertical)
 
   -- a longer one has children of whole cells
-  node-filled : (n : Node) → Whole n → (d : Decision) (here : cornerInside (k .limits) n ≡ true) (ok : allows (rightsOf k n) d ≡ true) (kids : Trees k (children (k .limits) n d))
+  node-filled : (n : Node) → Whole n → (d : Decision) → cornerInside (k .limits) n ≡ true → allows (rightsOf k n) d ≡ true → (kids : Trees k (children (k .limits) n d))
       → (Every Whole (children (k .limits) n d) → Filled64 (rowsOf kids)) → Filled64 (ownRows n d ++ rowsOf kids)
   unfolding rowsOf
   node-filled n w d here ok kids below = go (decLt 64 (max (n .w) (n .h)))
     where
       go : Dec (64 < max (n .w) (n .h)) → Filled64 (ownRows n d ++ rowsOf kids)
-      go (yes long) = joins .join (own-row-filled n w d) (below (whole-kids k cb qt n w long d ok))
+      go (yes long) = joins .join (own-joined k joins n (λ i. row-filled _ _ (whole-leaf n w)) d ok) (below (whole-kids k cb qt n w long d ok))
       go (no long) = rw append-nil at (one-filled n w (omega arith) (node d here ok kids none))
-
-  whole-filled : {ns : List Node} (t : Trees k ns) → Every Whole ns → Filled64 (rowsOf t)
-  unfolding rowsOf
-  whole-filled none ws = joins .empty
-  whole-filled (skip out rest) (every-more w ws) = whole-filled rest ws
-  whole-filled (node {n = n} d here ok kids rest) (every-more w ws) = joins .join (node-filled n w d here ok kids (whole-filled kids)) (whole-filled rest ws)
 
   -- ---- a square at a multiple of its side, as a unit is
 
@@ -110,7 +96,7 @@ module _ (k : Kind) (cb : 4 ≤ k .limits .mincb) (qt : 4 ≤ k .limits .minqt) 
     tree-filled = go (decLt 64 (n .w))
       where
         go : Dec (64 < n .w) → FilledIfOnce (k .limits .width) (k .limits .height) (pipelineSide (n .w)) (rowsOf t)
-        go (yes h) = rw (side-from-64 (n .w) (omega arith)) (whole-filled t (every-more (square-whole sh square at h) every-none))
+        go (yes h) = rw (side-from-64 (n .w) (omega arith)) (tree-joined k joins node-filled t (every-more (square-whole sh square at h) every-none))
         go (no h) = rw (side-to-64 (n .w) (omega arith)) (own-filled k cb qt sh square at t)
 
     -- R-14's law of one tree

@@ -8,7 +8,7 @@ use borrow.Author.Tests.{eqb-true}
 use Rattle.settings.specs.declared.Settings.{Settings}
 use Rattle.settings.specs.Checks.{settingsRefusal}
 use Rattle.settings.specs.Units.{unitCount, unitRefusal}
-use Rattle.settings.proofs.Passed.{passed, usable}
+use Rattle.settings.proofs.Passed.{Usable, passed, usable}
 use Rattle.settings.proofs.Grid.{unit-taken}
 use Rattle.laws.proofs.Tests.{never}
 use Rattle.unit.specs.Reader.{readUnit}
@@ -29,9 +29,9 @@ module _ (s : Settings) where
   abbrev pub at-due : ℕ → Session
   at-due a = record { settings = s; due = a }
 
-  greyscale-units : settingsRefusal s ≡ 0 → UnitLaws (greyscale s)
+  pub greyscale-units : Usable s → UnitLaws (greyscale s)
   unfolding readUnit writeFlags
-  greyscale-units ok = luma-laws s (unitRefusal s) (usable (passed s ok)) (λ a h. unit-taken s a h .1)
+  greyscale-units p = luma-laws s (unitRefusal s) p (λ a h. unit-taken s a h .1)
 
   greyscale-session : SessionLaws (greyscale s) unitCall following (λ a. a + 1) (λ a t. t ≡ at-due a)
   unfolding unitCall
@@ -41,7 +41,7 @@ module _ (s : Settings) where
 
   pub greyscale-laws : settingsRefusal s ≡ 0
       → Laws (oneTree (greyscale s) Session unitCall following) 0 (λ a. a + 1) (λ a t. t ≡ at-due a)
-  greyscale-laws ok = one-tree (greyscale s) (greyscale-units ok) (raster (unitCount s)) greyscale-session
+  greyscale-laws ok = one-tree (greyscale s) (greyscale-units (usable (passed s ok))) (raster (unitCount s)) greyscale-session
 
   after : settingsRefusal s ≡ 0 → (calls : List Call) → After s (at-due 0) calls
   after ok calls =

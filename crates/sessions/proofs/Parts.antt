@@ -16,13 +16,14 @@ use Rattle.tree.specs.Back.{backNode}
 use Rattle.tree.specs.Tree.{Tree, none, skip, node, flagsOf, rowsOf}
 use Rattle.laws.specs.Every.{Every}
 use Rattle.laws.specs.Geometry.{rectangle, copies, InOneCell, InPipeline, pipelineSide}
+use Rattle.laws.specs.CellOrder.{CellByCell}
 use Rattle.laws.proofs.Directions.{corner}
 use Rattle.laws.proofs.Multiples.{Multiple}
 use Rattle.laws.proofs.Shape.{Shape}
 use Rattle.laws.proofs.Cover as cover
 use Rattle.laws.proofs.Pipeline.{in-one, in-pipeline}
 use Rattle.laws.proofs.CellOrder.{FilledIfOnce}
-use Rattle.laws.proofs.PipelineOrder.{tree-filled}
+use Rattle.laws.proofs.PipelineOrder.{tree-filled, tree-cell-by-cell}
 use Rattle.laws.proofs.Turning.{TurningIsTree, kind-turning}
 
 -- What the laws ask of a kind and a root: smallest sides of 4 and more, the picture's sides, a square at a multiple of
@@ -53,10 +54,15 @@ module _ {width height cell : ℕ} {k : Kind} {n : Node} (s : GoodRoot width hei
       let own : cell ≡ n .w = omega arith in
       rw own (in-one k (s .leastCb) (s .leastQt) (s .shape) (s .square) (s .at) t (n .w) (s .shape .side Vertical .fold) (omega arith))
 
-  -- R-14
+  -- R-14: as a part of a joined table, and by itself
   pub part-filled : (t : Tree k n) → FilledIfOnce width height cell (rowsOf t)
   part-filled t =
       rw (← s .wide, ← s .high, s .pipeline) (tree-filled k (s .leastCb) (s .leastQt) (s .shape) (s .square) (s .at) t)
+
+  pub part-cells : {side : ℕ} → side ≡ cell → (t : Tree k n) → CellByCell side width height (rowsOf t)
+  part-cells e t =
+      rw (← s .wide, ← s .high)
+      (tree-cell-by-cell k (s .leastCb) (s .leastQt) (s .shape) (s .square) (s .at) t (e ∙ s .pipeline))
 
   turning : cornerInside (k .limits) n ≡ true → TurningIsTree k n
   turning here = kind-turning k (s .leastCb) (s .leastQt) n (s .shape) here (s .fits)
