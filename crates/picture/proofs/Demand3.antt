@@ -12,7 +12,7 @@ use Rattle.settings.proofs.Passed.{Usable, passed, usable}
 use Rattle.settings.proofs.Grid.{unit-taken}
 use Rattle.laws.proofs.Tests.{never}
 use Rattle.unit.specs.Reader.{readUnit}
-use Rattle.unit.specs.Writer.{writeFlags}
+use Rattle.unit.specs.Writer.{testUnit, writeFlags}
 use Rattle.sessions.proofs.Order.{raster}
 use Rattle.sessions.proofs.Laws.{Laws}
 use Rattle.sessions.proofs.Demand as sessions
@@ -30,7 +30,7 @@ module _ (s : Settings) where
   at-due a = record { settings = s; due = a }
 
   pub greyscale-units : Usable s → UnitLaws (greyscale s)
-  unfolding readUnit writeFlags
+  unfolding readUnit testUnit writeFlags
   greyscale-units p = luma-laws s (unitRefusal s) p (λ a h. unit-taken s a h .1)
 
   greyscale-session : SessionLaws (greyscale s) unitCall following (λ a. a + 1) (λ a t. t ≡ at-due a)

@@ -12,11 +12,12 @@ use Rattle.settings.proofs.Passed.{Usable}
 use Rattle.settings.proofs.Grid.{corner-x, corner-y}
 use Rattle.laws.specs.Geometry.{pipelineSide}
 use Rattle.laws.proofs.Tests.{never}
+use Rattle.tree.specs.Run.{refuse}
 use Rattle.unit.specs.declared.Answer.the-variants.{Accepted}
-use Rattle.unit.specs.Answers.{refused}
+use Rattle.unit.specs.Answers.{refused, finish}
 use Rattle.unit.specs.Luma.{kindOf, rootAt}
 use Rattle.unit.specs.Reader.{readTree}
-use Rattle.unit.specs.Writer.{writeRows}
+use Rattle.unit.specs.Writer.{testRows, writeRows}
 use Rattle.unit.proofs.Roots.{Root, usable-root}
 use Rattle.unit.proofs.AcceptedTree.{accepted-tree, tree-back}
 use Rattle.sessions.proofs.Parts.{GoodRoot}
@@ -34,7 +35,7 @@ lumaUnits s refusal = record {
   read = λ a flags buffer.
       cond (eqb (refusal a) 0) (readTree (kindOf s) (rootAt s a) flags buffer) (refused (refusal a) 0 buffer);
   turn = λ a bytes buffer.
-      cond (eqb (refusal a) 0) (writeRows (kindOf s) (rootAt s a) bytes buffer) (refused (refusal a) 0 buffer);
+      finish (λ flags. flags) 17 (cond (eqb (refusal a) 0) (testRows (kindOf s) (rootAt s a) bytes) (refuse (refusal a) 0)) buffer;
 }
 
 good-root : {s : Settings} {a : ℕ} → Root s a
@@ -61,6 +62,7 @@ module _ (s : Settings) (refusal : ℕ → ℕ) (p : Usable s) (there : (a : ℕ
 
   accepts : (a : ℕ) (flags buffer : List ℕ) {m : ℕ} → units .read a flags buffer .answer ≡ Accepted m
       → UnitAccepted units a flags m (units .read a flags buffer .buffer)
+  unfolding writeRows
   accepts a flags buffer {m} e = go (eqb (refusal a) 0) refl e
     where
       go : (b : Bool) → eqb (refusal a) 0 ≡ b

@@ -12,11 +12,11 @@ use Rattle.tree.specs.Reading.{enter, walk}
 use Rattle.tree.specs.Back.{back}
 use Rattle.unit.specs.Answers.{deliver, finishEnd}
 use Rattle.unit.specs.Reader.{noneAfter, rowsFrom, readTree, readUnit}
-use Rattle.unit.specs.Writer.{noneLeft, flagsFrom, writeTree, writeRows, writeFlags}
+use Rattle.unit.specs.Writer.{noneLeft, flagsFrom, testRows, testUnit, writeFlags}
 use Rattle.unit.specs.Cases.{Checked}
 
 pub checked : Checked
-unfolding trailingZeros ones onesIn settingsRefusal unitsOver unitCount unitRefusal squareAt binaryClosed binaryOpen ternaryOpen rightsOf flagAt afterBinary afterVertical afterQuad afterSplit decide shares childQt childMtt childOffset child childrenFrom children cornerInside rowOf ownRows rowBytes tableBytes rowsAt before goOn overAll enter walk back deliver finishEnd noneAfter rowsFrom readTree readUnit noneLeft flagsFrom writeTree writeRows writeFlags
+unfolding trailingZeros ones onesIn settingsRefusal unitsOver unitCount unitRefusal squareAt binaryClosed binaryOpen ternaryOpen rightsOf flagAt afterBinary afterVertical afterQuad afterSplit decide shares childQt childMtt childOffset child childrenFrom children cornerInside rowOf ownRows rowBytes tableBytes rowsAt before goOn overAll enter walk back deliver finishEnd noneAfter rowsFrom readTree readUnit noneLeft flagsFrom testRows testUnit writeFlags
 checked = record {
   p1 = refl;
   p2 = refl;

@@ -1,8 +1,8 @@
--- The two calls on a single unit are decided by their faults.
-use Prim.Native.Nat.{ℕ, _%_}
+-- The calls on a single unit are decided by their faults.
+use Prim.Native.Nat.{ℕ}
 use mathlib.Core.Path.{_≡_, refl, sym, ap, subst, _∙_}
 use mathlib.Core.Bool.{Bool, true, false, not, _&&_}
-use mathlib.Core.List.{List, [], _∷_}
+use mathlib.Core.List.{List, [], _∷_, _++_}
 use mathlib.Core.Logic.{inl, inr}
 use native.Mathlib.Omega.{arith}
 use native.Mathlib.Decide.{ℕ-discrete}
@@ -13,23 +13,25 @@ use Rattle.sides.proofs.Bools.{clash, and-left, and-right}
 use Rattle.settings.specs.declared.Settings.{Settings}
 use Rattle.settings.specs.Units.{unitRefusal}
 use Rattle.tree.specs.Rows.{tableBytes}
+use Rattle.tree.specs.Run.{stops}
 use Rattle.tree.specs.Tree.{flagsOf, rowsOf}
 use Rattle.laws.proofs.Tests.{never}
 use Rattle.unit.specs.declared.Answer.{Answer}
 use Rattle.unit.specs.declared.Answer.the-variants.{Accepted, Refused}
-use Rattle.unit.specs.Answers.{numberOf, ZeroIsAccepted, Outcome, refused}
+use Rattle.unit.specs.Answers.{numberOf, ZeroIsAccepted, Outcome, refused, deliver}
 use Rattle.unit.specs.Luma.{kindOf, rootAt}
 use Rattle.unit.specs.Reader.{readUnit}
-use Rattle.unit.specs.Writer.{writeFlags}
-use Rattle.unit.specs.Exactly.{OneOf, AcceptedOr, Bytes}
-use Rattle.unit.specs.Faults.{ReadFault, read-unit, read-flags, read-room, TurnFault, turn-unit, turn-cut, turn-none, turn-room, readNumbers, turnNumbers, Decides}
+use Rattle.unit.specs.Writer.{testUnit, writeFlags}
+use Rattle.unit.specs.Exactly.{UnitTree, OneOf, AcceptedOr, Bytes}
+use Rattle.unit.specs.Faults.{ReadFault, read-unit, read-flags, read-room, RowsFault, rows-unit, rows-cut, rows-none, TestedFault, tested-rows, tested-room, TurnFault, readNumbers, rowsNumbers, turnNumbers, Decides}
 use Rattle.unit.proofs.Accepts.{deliver-short, undelivered}
 use Rattle.unit.proofs.FlagFaults.{fault-once, no-fault}
 use Rattle.unit.proofs.Parsed.{table-length}
 use Rattle.unit.proofs.RootTree.{root-reading}
 use Rattle.unit.proofs.Roots.{root-of}
 use Rattle.unit.proofs.ReadsExactly.{reads-exactly, unit-read, fault-number}
-use Rattle.unit.proofs.TurnsExactly.{turns-exactly, Turned, turned, unit-cut}
+use Rattle.unit.proofs.Tested.{Passed, Tested, faulty, passed, none-has, tested, table-of, fault-stops}
+use Rattle.unit.proofs.TurnsExactly.{write-stopped, write-given, turns-exactly}
 use Rattle.unit.proofs.TreeReading.{FlagsRead, read-or-refused}
 use Rattle.unit.proofs.UnitFaults.{one-of-more, one-of-later, unitNumbers, unit-fault, unit-refused, unit-number}
 
@@ -135,54 +137,50 @@ module _ (s : Settings) (a : ℕ) (flags buffer : List ℕ) where
   pub reading-decides : Decides Fault readNumbers (readUnit s a flags buffer .answer) buffer (readUnit s a flags buffer .buffer)
   reading-decides = decides Fault readNumbers read-fault (λ number place f. is-refused (read-refused number place f)) read-number
 
-module _ (s : Settings) (a : ℕ) (bytes : List ℕ) (small : Bytes bytes) (buffer : List ℕ) where
-  -- the way back of a unit that is not there
-  unturned : ¬ (unitRefusal s a ≡ 0) → writeFlags s a bytes buffer ≡ refused (unitRefusal s a) 0 buffer
-  unfolding writeFlags
-  unturned h = rw (ne-eqb (unitRefusal s a) 0 h)
-
+-- a call that tests rows, and delivers what it makes of the tree that has them
+module _ (s : Settings) (a : ℕ) (bytes : List ℕ) (small : Bytes bytes) (buffer : List ℕ)
+    (short : ℕ) (made : UnitTree s a → List ℕ) (call : Outcome)
+    (stopped : (number place : ℕ) → testUnit s a bytes .end ≡ stops number place → call ≡ refused number place buffer)
+    (delivers : (p : Passed s a bytes) → call ≡ deliver short (length (made (p .tree))) (made (p .tree)) buffer) where
   abbrev Wrong : ℕ → ℕ → Type 0
-  Wrong number place = TurnFault s a bytes (length buffer) number place
+  Wrong number place = TestedFault s a bytes short made (length buffer) number place
 
-  turn-fault : (number place : ℕ) → writeFlags s a bytes buffer .answer ≡ Refused number place → Wrong number place
-  turn-fault number place e = go (ℕ-discrete (unitRefusal s a) 0)
+  tested-fault : (number place : ℕ) → call .answer ≡ Refused number place → Wrong number place
+  tested-fault number place e = go (tested s a bytes)
     where
-      from : {k p : ℕ} → Wrong k p → writeFlags s a bytes buffer ≡ refused k p buffer → Wrong number place
-      from f w = answer-fault Wrong f w e
+      go : Tested s a bytes → Wrong number place
+      go (faulty f w) = answer-fault Wrong (tested-rows f) (stopped _ _ w) e
+      go (passed p) =
+          let d = undelivered short (length (made (p .tree))) (made (p .tree)) buffer (rw (delivers p) at e) in
+          same-fault Wrong (tested-room (p .there) (p .tree) (table-of s a bytes small p) (d .2)) (d .0) (d .1)
 
-      rows : unitRefusal s a ≡ 0 → length bytes % 8 ≡ 0 → Turned s a bytes → Wrong number place
-      rows h w (inl t) =
-          let d = undelivered 17 (length (flagsOf (t .0))) (flagsOf (t .0)) buffer (rw (← (t .1), turns-exactly s a h .turns (t .0) buffer) at e) in
-          same-fault Wrong (turn-room h (t .0) (t .1) (d .2)) (d .0) (d .1)
-      rows h w (inr f) = from (turn-none h w (turns-exactly s a h .refused bytes small w buffer .0 (rw (f buffer)))) (f buffer)
-
-      there : unitRefusal s a ≡ 0 → Dec (length bytes % 8 ≡ 0) → Wrong number place
-      there h (yes w) = rows h w (turned s a h bytes small w)
-      there h (no w) = from (turn-cut h w) (unit-cut s a h bytes buffer w)
-
-      go : Dec (unitRefusal s a ≡ 0) → Wrong number place
-      go (yes h) = there h (ℕ-discrete (length bytes % 8) 0)
-      go (no h) = from (turn-unit (unit-fault s a (unitRefusal s a) refl (omega arith))) (unturned h)
-
-  turn-refused : (number place : ℕ) → Wrong number place → writeFlags s a bytes buffer ≡ refused number place buffer
-  turn-refused number place (turn-unit f) =
-      let u = unit-refused s a f in
-      let e = u .0 in
-      let l = u .1 in
-      unturned (λ z. omega arith) ∙ rw (u .0)
-  turn-refused number place (turn-cut h w) = unit-cut s a h bytes buffer w
-  turn-refused number place (turn-none h w none) = go (turned s a h bytes small w)
+  tested-refused : (number place : ℕ) → Wrong number place → call ≡ refused number place buffer
+  tested-refused number place (tested-rows f) = stopped number place (fault-stops s a bytes small f)
+  tested-refused number place (tested-room h t e l) = go (tested s a bytes)
     where
-      go : Turned s a bytes → writeFlags s a bytes buffer ≡ refused 16 0 buffer
-      go (inl t) = absurd (none (t .0) (t .1))
-      go (inr f) = f buffer
-  turn-refused number place (turn-room h t e l) = rw (← e) (turns-exactly s a h .turns t buffer ∙ deliver-short 17 _ _ buffer l)
+      go : Tested s a bytes → call ≡ refused short (length (made t)) buffer
+      go (faulty f w) = absurd (none-has s a bytes h w t e)
+      go (passed p) =
+          let same : p .tree ≡ t = turns-exactly s a h .unique (p .tree) t (table-of s a bytes small p ∙ sym e) in
+          delivers p ∙ rw same (deliver-short short _ _ buffer l)
 
-  turn-number : (number place : ℕ) → Wrong number place → OneOf number turnNumbers
-  turn-number number place (turn-unit f) = one-of-more number unitNumbers (15 ∷ 16 ∷ 17 ∷ []) (unit-number s a f)
-  turn-number number place (turn-cut h w) = one-of-later 15 unitNumbers (15 ∷ 16 ∷ 17 ∷ []) (inl refl)
-  turn-number number place (turn-none h w none) = one-of-later 16 unitNumbers (15 ∷ 16 ∷ 17 ∷ []) (inr (inl refl))
-  turn-number number place (turn-room h t e l) = one-of-later 17 unitNumbers (15 ∷ 16 ∷ 17 ∷ []) (inr (inr (inl refl)))
+  rows-listed : {number place : ℕ} → RowsFault s a bytes number place → OneOf number rowsNumbers
+  rows-listed {number} (rows-unit f) = one-of-more number unitNumbers (15 ∷ 16 ∷ []) (unit-number s a f)
+  rows-listed (rows-cut h w) = one-of-later 15 unitNumbers (15 ∷ 16 ∷ []) (inl refl)
+  rows-listed (rows-none h w none) = one-of-later 16 unitNumbers (15 ∷ 16 ∷ []) (inr (inl refl))
 
-  pub turning-decides : Decides Wrong turnNumbers (writeFlags s a bytes buffer .answer) buffer (writeFlags s a bytes buffer .buffer)
-  turning-decides = decides Wrong turnNumbers turn-fault (λ number place f. is-refused (turn-refused number place f)) turn-number
+  tested-number : (number place : ℕ) → Wrong number place → OneOf number (rowsNumbers ++ (short ∷ []))
+  tested-number number place (tested-rows f) = one-of-more number rowsNumbers (short ∷ []) (rows-listed f)
+  tested-number number place (tested-room h t e l) = one-of-later short rowsNumbers (short ∷ []) (inl refl)
+
+  pub tested-decides : Decides Wrong (rowsNumbers ++ (short ∷ [])) (call .answer) buffer (call .buffer)
+  tested-decides =
+      decides Wrong (rowsNumbers ++ (short ∷ [])) tested-fault (λ number place f. is-refused (tested-refused number place f)) tested-number
+
+-- the way back
+module _ (s : Settings) (a : ℕ) (bytes : List ℕ) (small : Bytes bytes) (buffer : List ℕ) where
+  pub turning-decides : Decides (TurnFault s a bytes (length buffer)) turnNumbers
+      (writeFlags s a bytes buffer .answer) buffer (writeFlags s a bytes buffer .buffer)
+  turning-decides =
+      tested-decides s a bytes small buffer 17 flagsOf (writeFlags s a bytes buffer)
+      (write-stopped s a bytes buffer) (λ p. write-given s a bytes buffer (p .gives-flags))

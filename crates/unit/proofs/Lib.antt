@@ -7,11 +7,12 @@ pub mod FlagFaults
 pub mod TreeReading
 pub mod TreeTurning
 pub mod RootTree
+pub mod UnitFaults
+pub mod Tested
 pub mod ReadsExactly
 pub mod TurnsExactly
 pub mod AcceptedTree
 pub mod RoundTrips
-pub mod UnitFaults
 pub mod Decided
 pub mod Sizes
 pub mod Bounds

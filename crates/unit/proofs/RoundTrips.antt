@@ -12,6 +12,7 @@ use Rattle.settings.specs.declared.Settings.{Settings}
 use Rattle.settings.specs.Units.{unitRefusal}
 use Rattle.tree.specs.Rows.{tableBytes}
 use Rattle.tree.specs.Tree.{flagsOf, rowsOf}
+use Rattle.laws.proofs.Tests.{never}
 use Rattle.unit.specs.declared.Answer.the-variants.{Accepted, Refused}
 use Rattle.unit.specs.Answers.{accepted}
 use Rattle.unit.specs.Reader.{readUnit}
@@ -23,7 +24,8 @@ use Rattle.unit.proofs.Roots.{root-of}
 use Rattle.unit.proofs.AcceptedTree.{AcceptedTree, accepted-tree, tree-back}
 use Rattle.unit.proofs.Parsed.{table-length}
 use Rattle.unit.proofs.ReadsExactly.{unit-read, reads-exactly}
-use Rattle.unit.proofs.TurnsExactly.{unit-rows, turns-exactly}
+use Rattle.unit.proofs.Tested.{Tested, faulty, passed, tested}
+use Rattle.unit.proofs.TurnsExactly.{write-stopped, unit-rows, turns-exactly}
 
 module _ (s : Settings) (a : ℕ) where
   -- only a unit that is there is read or turned back
@@ -32,8 +34,11 @@ module _ (s : Settings) (a : ℕ) where
   read-there flags buffer m e = eqb-true (unitRefusal s a) 0 (met-none _ _ _ _ buffer e)
 
   pub turned-there : (bytes buffer : List ℕ) (m : ℕ) → writeFlags s a bytes buffer .answer ≡ Accepted m → unitRefusal s a ≡ 0
-  unfolding writeFlags
-  turned-there bytes buffer m e = eqb-true (unitRefusal s a) 0 (met-none _ _ _ _ buffer e)
+  turned-there bytes buffer m e = go (tested s a bytes)
+    where
+      go : Tested s a bytes → unitRefusal s a ≡ 0
+      go (faulty f w) = let g = write-stopped s a bytes buffer _ _ w in never (cc)
+      go (passed p) = p .there
 
   pub unit-accepted : unitRefusal s a ≡ 0 → (flags buffer : List ℕ) (m : ℕ) → readUnit s a flags buffer .answer ≡ Accepted m
       → AcceptedTree s a flags m (readUnit s a flags buffer .buffer)

@@ -22,7 +22,7 @@ use Rattle.unit.specs.Reader.{readUnit}
 use Rattle.unit.specs.Writer.{writeFlags}
 use Rattle.unit.specs.Exactly.{UnitTree, Bytes}
 use Rattle.unit.specs.Bounds.{mostFlags}
-use Rattle.unit.specs.Faults.{TurnFault, turn-unit, turn-cut, turn-none, turn-room}
+use Rattle.unit.specs.Faults.{TurnFault, rows-unit, rows-cut, rows-none, tested-rows, tested-room}
 use Rattle.unit.proofs.Decided.{turning-decides}
 use Rattle.unit.proofs.Roots.{root-of}
 use Rattle.unit.proofs.ReadsExactly.{reads-exactly}
@@ -85,10 +85,10 @@ module _ (s : Settings) (a : ℕ) where
 
   fault-short : {table : List ℕ} {room number place : ℕ} → TurnFault s a table room number place → number ≡ 17
       → Short table room place
-  fault-short (turn-unit f) e = let m = unit-most s a f in absurd (omega arith)
-  fault-short (turn-cut h c) e = absurd (omega arith)
-  fault-short (turn-none h w n) e = absurd (omega arith)
-  fault-short (turn-room h t f l) e = record { there = h; tree = t; rows = f; needs = refl; lacks = l }
+  fault-short (tested-rows (rows-unit f)) e = let m = unit-most s a f in absurd (omega arith)
+  fault-short (tested-rows (rows-cut h c)) e = absurd (omega arith)
+  fault-short (tested-rows (rows-none h w n)) e = absurd (omega arith)
+  fault-short (tested-room h t f l) e = record { there = h; tree = t; rows = f; needs = refl; lacks = l }
 
   pub short-tree : (table : List ℕ) → Bytes table → (buffer : List ℕ) (place : ℕ)
       → writeFlags s a table buffer .answer ≡ Refused 17 place → Short table (length buffer) place

@@ -53,3 +53,11 @@ finishEnd number count bytes (goes s) buffer = deliver number count bytes buffer
 
 abbrev pub finish : {A S : Type 0} → (List A → List ℕ) → ℕ → Run A S → List ℕ → Outcome
 finish bytes number r buffer = finishEnd number (length (r .given)) (bytes (r .given)) (r .end) buffer
+
+-- the answer of a run whose outcome is not delivered: its own refusal, or how much it gave
+abbrev pub endAnswer : {S : Type 0} → ℕ → End S → Answer
+endAnswer count (stops k p) = Refused k p
+endAnswer count (goes s) = Accepted count
+
+abbrev pub answerOf : {A S : Type 0} → Run A S → Answer
+answerOf r = endAnswer (length (r .given)) (r .end)

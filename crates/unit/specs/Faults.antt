@@ -52,16 +52,26 @@ pub data ReadFault (s : Settings) (a : ℕ) (flags : List ℕ) (room : ℕ) : �
   read-room : unitRefusal s a ≡ 0 → (t : UnitTree s a) → flagsOf t ≡ flags → room < 8 * length (rowsOf t)
       → ReadFault s a flags room 14 (length (rowsOf t))
 
-pub data TurnFault (s : Settings) (a : ℕ) (bytes : List ℕ) (room : ℕ) : ℕ → ℕ → Type 0 where
-  turn-unit : {number : ℕ} → UnitFault s a number → TurnFault s a bytes room number 0
+-- rows that are tested for the way back: 1 to 10, 15 and 16
+pub data RowsFault (s : Settings) (a : ℕ) (bytes : List ℕ) : ℕ → ℕ → Type 0 where
+  rows-unit : {number : ℕ} → UnitFault s a number → RowsFault s a bytes number 0
   -- "Row bytes no multiple of 8; place: whole rows"
-  turn-cut : unitRefusal s a ≡ 0 → ¬ (length bytes % 8 ≡ 0) → TurnFault s a bytes room 15 (length bytes / 8)
+  rows-cut : unitRefusal s a ≡ 0 → ¬ (length bytes % 8 ≡ 0) → RowsFault s a bytes 15 (length bytes / 8)
   -- "No flags give these rows": they are those of no tree
-  turn-none : unitRefusal s a ≡ 0 → length bytes % 8 ≡ 0 → ((t : UnitTree s a) → ¬ (tableBytes (rowsOf t) ≡ bytes))
-      → TurnFault s a bytes room 16 0
-  -- "Flag buffer shorter than the flags; place: flags needed"
-  turn-room : unitRefusal s a ≡ 0 → (t : UnitTree s a) → tableBytes (rowsOf t) ≡ bytes → room < length (flagsOf t)
-      → TurnFault s a bytes room 17 (length (flagsOf t))
+  rows-none : unitRefusal s a ≡ 0 → length bytes % 8 ≡ 0 → ((t : UnitTree s a) → ¬ (tableBytes (rowsOf t) ≡ bytes))
+      → RowsFault s a bytes 16 0
+
+-- a call that tests rows and then delivers what it makes of their tree: refused with a number of its own where the lent
+-- buffer is shorter than that, the place the bytes needed
+pub data TestedFault (s : Settings) (a : ℕ) (bytes : List ℕ) (short : ℕ) (made : UnitTree s a → List ℕ) (room : ℕ)
+    : ℕ → ℕ → Type 0 where
+  tested-rows : {number place : ℕ} → RowsFault s a bytes number place → TestedFault s a bytes short made room number place
+  tested-room : unitRefusal s a ≡ 0 → (t : UnitTree s a) → tableBytes (rowsOf t) ≡ bytes → room < length (made t)
+      → TestedFault s a bytes short made room short (length (made t))
+
+-- "Flag buffer shorter than the flags; place: flags needed"
+abbrev pub TurnFault : Settings → ℕ → List ℕ → ℕ → ℕ → ℕ → Type 0
+TurnFault s a bytes room = TestedFault s a bytes 17 flagsOf room
 
 -- ---- a call that its faults decide
 
@@ -69,8 +79,11 @@ pub data TurnFault (s : Settings) (a : ℕ) (bytes : List ℕ) (room : ℕ) : �
 abbrev pub readNumbers : List ℕ
 readNumbers = 1 ∷ 2 ∷ 3 ∷ 4 ∷ 5 ∷ 6 ∷ 7 ∷ 8 ∷ 9 ∷ 10 ∷ 11 ∷ 12 ∷ 13 ∷ 14 ∷ []
 
+abbrev pub rowsNumbers : List ℕ
+rowsNumbers = 1 ∷ 2 ∷ 3 ∷ 4 ∷ 5 ∷ 6 ∷ 7 ∷ 8 ∷ 9 ∷ 10 ∷ 15 ∷ 16 ∷ []
+
 abbrev pub turnNumbers : List ℕ
-turnNumbers = 1 ∷ 2 ∷ 3 ∷ 4 ∷ 5 ∷ 6 ∷ 7 ∷ 8 ∷ 9 ∷ 10 ∷ 15 ∷ 16 ∷ 17 ∷ []
+turnNumbers = rowsNumbers ++ (17 ∷ [])
 
 -- What a call's answer says, given its possible faults, the numbers that it uses, and what it was lent before and after.
 pub record Decides {Lent : Type 0} (Fault : ℕ → ℕ → Type 0) (numbers : List ℕ) (answer : Answer) (lent left : Lent) : Type 0 where

@@ -20,9 +20,18 @@ use Rattle.nodes.specs.declared.state.Child.the-variants as child
 use Rattle.nodes.proofs.state.Child as C
 use Rattle.nodes.specs.State.{placeOf, countOf, numberOf, refusedAt}
 use Rattle.nodes.proofs.Apart.{was-walked}
-use Rattle.writer.specs.Delivery.{deliverLeaf, deliverFlags}
+use Rattle.writer.specs.Delivery.{leafFlags, deliverLeaf, walkEnd, deliverFlags}
 
 -- ---- a root that is a leaf
+
+module _ (splits : ℕ) {some : Bool} (e : some ≡ someOpen (rightsIn false splits)) where
+  pub leaf-one : some ≡ true → 1 ≡ length (leafFlags splits)
+  unfolding flagsFor
+  leaf-one h = rw (← e, h)
+
+  pub leaf-zero : some ≡ false → 0 ≡ length (leafFlags splits)
+  unfolding flagsFor
+  leaf-zero h = rw (← e, h)
 
 module _ (splits : ℕ) {some : Bool} (e : some ≡ someOpen (rightsIn false splits)) (b : List ℕ) where
   pub leaf-none : not some ≡ true → Meets (deliverLeaf splits b) (Accepted 0) b
@@ -45,41 +54,39 @@ refused-only : (t : Bool) (answer : ℕ) → denote.Enum.Declared.tagOf C.the-ty
 refused-only true answer e = absurd (omega arith)
 refused-only false answer e = refl
 
-module _ (answer : ℕ) (w : Child) (apart : w ≡ cond (ltb answer 9223372036854775808) (child.Walked answer) (child.Refused answer)) (scratch rows b : List ℕ) where
-  pub all-stop : denote.Enum.Declared.tagOf C.the-type w ≡ 1 → (number place : ℕ) → number ≡ numberOf answer → place ≡ refusedAt answer
-      → Meets (deliverFlags answer scratch rows b) (Refused number place) b
-  unfolding deliverFlags
-  all-stop tag number place e f =
+module _ (answer : ℕ) (w : Child) (apart : w ≡ cond (ltb answer 9223372036854775808) (child.Walked answer) (child.Refused answer)) (rows : List ℕ) where
+  pub end-stop : denote.Enum.Declared.tagOf C.the-type w ≡ 1 → (number place : ℕ) → number ≡ numberOf answer → place ≡ refusedAt answer
+      → Refused number place ≡ walkEnd answer rows
+  unfolding walkEnd
+  end-stop tag number place e f =
       let h = refused-only (ltb answer 9223372036854775808) answer (sym (ap (denote.Enum.Declared.tagOf C.the-type) apart) ∙ tag) in
-      rw (h, e, f) (record { answers = refl; leaves = refl })
+      rw (h, e, f)
 
-  module _ (end : ℕ) (read : w ≡ child.Walked end) where
+  module _ (end : ℕ) (read : w ≡ child.Walked end) (at : ℕ) (at-is : at ≡ placeOf end) where
     read-is : (end ≡ answer) × (answer < 9223372036854775808)
     read-is = was-walked answer apart read
 
     on : ltb answer 9223372036854775808 ≡ true
     on = lt-ltb _ _ (read-is .1)
 
-    module _ (at : ℕ) (at-is : at ≡ placeOf end) where
-      at-place : placeOf answer ≡ at
-      at-place = sym (at-is ∙ ap (λ c. placeOf c) (read-is .0))
+    at-place : placeOf answer ≡ at
+    at-place = sym (at-is ∙ ap (λ c. placeOf c) (read-is .0))
 
-      pub all-left : at < length rows / 8 → Meets (deliverFlags answer scratch rows b) (Refused 16 0) b
-      unfolding deliverFlags
-      all-left h = rw (on, at-place, lt-ltb _ _ h) (record { answers = refl; leaves = refl })
+    pub end-left : at < length rows / 8 → Refused 16 0 ≡ walkEnd answer rows
+    unfolding walkEnd
+    end-left h = rw (on, at-place, lt-ltb _ _ h)
 
-      module _ (all : length rows / 8 ≤ at) (n : ℕ) (n-is : (n ≡ countOf end) × (n < 16384)) where
-        n-count : countOf answer ≡ n
-        n-count = sym (n-is .0 ∙ ap (λ c. countOf c) (read-is .0))
+    pub end-all : length rows / 8 ≤ at → (n : ℕ) → n ≡ countOf end → Accepted n ≡ walkEnd answer rows
+    unfolding walkEnd
+    end-all all n e = rw (on, at-place, le-ltb _ _ all, e, read-is .0)
 
-        pub all-short : length b < n → Meets (deliverFlags answer scratch rows b) (Refused 17 n) b
-        unfolding deliverFlags
-        all-short h = rw (on, at-place, n-count, le-ltb _ _ all, lt-ltb _ _ h) (record { answers = refl; leaves = refl })
+-- ---- the flags of a scratch table
 
-        pub all-done : n ≤ length b → (answer < 9223372036854775808 → countOf answer ≤ 8192) → length scratch ≡ 8192 → (z : List ℕ) → z ≡ copied n scratch b
-            → Meets (deliverFlags answer scratch rows b) (Accepted n) z
-        unfolding deliverFlags
-        all-done h few len z e =
-            let m = few (read-is .1) in
-            let c = n-count in
-            rw (on, at-place, n-count, le-ltb _ _ all, le-ltb _ _ h) (record { answers = refl; leaves = e ∙ copied-all n scratch b h (omega arith) })
+module _ (n : ℕ) (scratch b : List ℕ) where
+  pub all-short : length b < n → Meets (deliverFlags n scratch b) (Refused 17 n) b
+  unfolding deliverFlags
+  all-short h = rw (lt-ltb _ _ h) (record { answers = refl; leaves = refl })
+
+  pub all-done : n ≤ 8192 → length scratch ≡ 8192 → n ≤ length b → {z : List ℕ} → z ≡ copied n scratch b → Meets (deliverFlags n scratch b) (Accepted n) z
+  unfolding deliverFlags
+  all-done few len h e = rw (le-ltb _ _ h) (record { answers = refl; leaves = e ∙ copied-all n scratch b h (omega arith) })

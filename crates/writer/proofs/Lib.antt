@@ -1,13 +1,5 @@
-pub mod Decisions
+pub mod Alone
 pub mod Delivery
 pub mod Ends
-pub mod NextRows
-pub mod Puts
 pub mod Units
 pub mod Whole
-pub mod Way
-pub mod RowWords
-pub mod Node
-pub mod Numbers
-pub mod Found
-pub mod Alone

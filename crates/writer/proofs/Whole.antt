@@ -1,42 +1,89 @@
--- The way back of a whole tree, from its root.
-use Prim.Native.Nat.{ℕ, _-_, _/_, _%_, _≤_, _<_}
-use mathlib.Core.Path.{_≡_, refl, ap, subst, _∙_}
+-- The test and the way back of a whole table, from its root.
+use Prim.Native.Nat.{ℕ, _-_, _/_, _%_, _≤_}
+use mathlib.Core.Path.{_≡_, refl, sym, ap, subst, _∙_}
 use mathlib.Core.Bool.{true}
 use mathlib.Core.List.{List, [], _∷_}
 use native.Mathlib.Omega.{arith}
-use lib.ListN.{length, length-drop}
+use lib.ListN.{length, length-drop, take}
 use borrow.Author.Tests.{eq-eqb, ne-eqb}
 use Rattle.tree.specs.declared.Limits.{Limits}
 use Rattle.tree.specs.declared.Node.{Node}
 use Rattle.tree.specs.declared.Decision.the-variants.{Quad}
 use Rattle.tree.specs.Kind.{luma}
 use Rattle.tree.specs.Rows.{Row, rowOf, rowsAt}
-use Rattle.tree.specs.Run.{Run, goes}
+use Rattle.tree.specs.Run.{Run, End, goes, stops, refuse}
 use Rattle.tree.specs.Reading.{levelsLeft}
 use Rattle.tree.specs.Back.{backNode}
 use Rattle.blocks.specs.Words.{rowWord}
+use Rattle.blocks.proofs.Pastes.{sets-front}
 use Rattle.laws.proofs.BackBounds.{BackBound, back-bound}
 use Rattle.laws.proofs.BackRefusals.{BackFine, back-fine}
+use Rattle.laws.proofs.Tests.{never}
 use Rattle.unit.specs.declared.Answer.{Answer}
-use Rattle.unit.specs.declared.Answer.the-variants.{Refused}
-use Rattle.unit.specs.Answers.{Meets}
-use Rattle.unit.specs.Writer.{flagsFrom, writeTree, writeRows}
+use Rattle.unit.specs.declared.Answer.the-variants.{Accepted, Refused}
+use Rattle.unit.specs.Answers.{Meets, deliver, finishEnd, endAnswer, answerOf}
+use Rattle.unit.specs.Writer.{flagsFrom, testRows, writeRows}
 use Rattle.nodes.specs.Tables.{tableOf}
 use Rattle.nodes.specs.Words.{keptUnder}
 use Rattle.nodes.specs.Stands.{word}
-use Rattle.nodes.specs.State.{countOf}
 use Rattle.nodes.specs.Walks.{Asked, Done, Walked}
 use Rattle.nodes.specs.Rooted.{Rooted}
 use Rattle.nodes.proofs.Roots.{area, sum, root-asks, root-walked}
-use Rattle.writer.specs.Ahead.{rowsFrom, backWay}
-use Rattle.writer.specs.Delivery.{deliverFlags}
-use Rattle.writer.proofs.Way.{rows-long}
-use Rattle.writer.proofs.Delivery.{Near, count-small, all-is}
+use Rattle.back.specs.Ahead.{rowsFrom, backWay}
+use Rattle.back.proofs.Way.{rows-long}
+use Rattle.writer.specs.Delivery.{walkEnd, deliverFlags, Kept}
+use Rattle.writer.proofs.Delivery.{Near, walk-end}
 
--- 15
-pub rows-refused : (l : Limits) (root : Node) (bytes buffer : List ℕ) → (length bytes % 8 ≡ 0 → ⊥) → Meets (writeRows (luma l) root bytes buffer) (Refused 15 (length bytes / 8)) buffer
-unfolding writeRows
-rows-refused l root bytes buffer h = rw (ne-eqb _ _ h) (record { answers = refl; leaves = refl })
+module _ (l : Limits) (root : Node) (bytes : List ℕ) where
+  -- 15
+  module _ (h : length bytes % 8 ≡ 0 → ⊥) where
+    cut-test : testRows (luma l) root bytes ≡ refuse 15 (length bytes / 8)
+    unfolding testRows
+    cut-test = rw (ne-eqb _ _ h)
+
+    pub rows-cut : Refused 15 (length bytes / 8) ≡ answerOf (testRows (luma l) root bytes)
+    rows-cut = rw cut-test
+
+    pub rows-refused : (buffer : List ℕ) → Meets (writeRows (luma l) root bytes buffer) (Refused 15 (length bytes / 8)) buffer
+    unfolding writeRows finishEnd
+    rows-refused buffer = rw cut-test (record { answers = refl; leaves = refl })
+
+  -- the delivery of a test's flags
+  module _ {said : Answer} {before scratch : List ℕ} (kept : Kept (testRows (luma l) root bytes) said before scratch) (buffer : List ℕ) where
+    abbrev tested : Run ℕ (List Row)
+    tested = testRows (luma l) root bytes
+
+    kept-end : {answer : Answer} → said ≡ answer → endAnswer (length (tested .given)) (tested .end) ≡ answer
+    kept-end e = sym (kept .answers) ∙ e
+
+    pub kept-refused : {k p : ℕ} → said ≡ Refused k p → Meets (writeRows (luma l) root bytes buffer) (Refused k p) buffer
+    unfolding writeRows finishEnd
+    kept-refused {k} {p} e = go (tested .end) refl (kept-end e)
+      where
+        go : (end : End (List Row)) → tested .end ≡ end → endAnswer (length (tested .given)) (tested .end) ≡ Refused k p
+            → Meets (writeRows (luma l) root bytes buffer) (Refused k p) buffer
+        go (goes rows) f g = let h = rw f at g in never (cc)
+        go (stops a b) f g = rw f (record { answers = sym (rw f at g); leaves = refl })
+
+    kept-count : {n : ℕ} → said ≡ Accepted n → (length (tested .given) ≡ n) × (rows : List Row) × (tested .end ≡ goes rows)
+    kept-count {n} e = go (tested .end) refl (kept-end e)
+      where
+        go : (end : End (List Row)) → tested .end ≡ end → endAnswer (length (tested .given)) (tested .end) ≡ Accepted n
+            → (length (tested .given) ≡ n) × (rows : List Row) × (tested .end ≡ goes rows)
+        go (goes rows) f g = let h = rw f at g in let c : length (tested .given) ≡ n = cc in (c, rows, f)
+        go (stops a b) f g = let h = rw f at g in never (cc)
+
+    pub kept-few : {n : ℕ} → said ≡ Accepted n → n ≤ 8192
+    kept-few e = rw (kept-count e .0) at (kept .few)
+
+    pub kept-written : {n : ℕ} → said ≡ Accepted n → length before ≡ 8192 → {r : Answer} {left : List ℕ}
+        → Meets (deliverFlags n scratch buffer) r left → Meets (writeRows (luma l) root bytes buffer) r left
+    unfolding writeRows finishEnd deliver deliverFlags
+    kept-written {n} e len {r} {left} m =
+        let c = kept-count e in
+        let few = kept .few in
+        let f : take n scratch ≡ tested .given = rw (← (c .0), kept .flags) (sets-front before (tested .given) (omega arith)) in
+        rw (c .2, c .0) (rw f at m)
 
 module _ {l : Limits} {root : Node} (r : Rooted l root) (bytes : List ℕ) where
   all-rows : length (rowsFrom bytes 0) ≡ length bytes / 8
@@ -75,14 +122,10 @@ module _ {l : Limits} {root : Node} (r : Rooted l root) (bytes : List ℕ) where
       root-done : Done (backWay bytes) run 0 b answer z
       root-done = root-walked r e f g (backWay bytes) placed (refl, refl) w
 
-      pub root-count : answer < 9223372036854775808 → countOf answer ≤ 8192
-      root-count = count-small bytes run root-done few
-
-      -- its delivery is the way back of the rows
-      pub root-delivered : length bytes % 8 ≡ 0 → length b ≡ 8192 → (buffer : List ℕ) {said : Answer} {left : List ℕ}
-          → Meets (deliverFlags answer z bytes buffer) said left → Meets (writeRows (luma l) root bytes buffer) said left
-      unfolding writeRows writeTree flagsFrom
-      root-delivered whole len buffer {said} {left} m =
+      -- what the walk answers is the test's end, and the scratch table has its flags
+      pub root-kept : length bytes % 8 ≡ 0 → {said : Answer} → said ≡ walkEnd answer bytes → Kept (testRows (luma l) root bytes) said b z
+      unfolding testRows flagsFrom
+      root-kept whole e =
           let rows : rowsFrom bytes 0 ≡ rowsAt (length bytes / 8) bytes 0 = ap (λ i. rowsAt i bytes 0) (omega arith) in
-          rw (eq-eqb _ _ whole)
-          (subst (λ x. Meets (writeTree (luma l) root x buffer) said left) rows (subst (λ o. Meets o said left) (all-is bytes run root-done few len near fine buffer) m))
+          rw (eq-eqb _ _ whole, ← rows)
+          (record { answers = e ∙ walk-end bytes run root-done few near fine; flags = root-done .given; few = few })

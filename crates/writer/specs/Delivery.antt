@@ -1,33 +1,50 @@
 -- The end of a way back as the code takes it: from a root that is a leaf, and from the number that a walk answers.
-use Prim.Native.Nat.{ℕ, _/_}
+use Prim.Native.Nat.{ℕ, _/_, _≤_}
+use mathlib.Core.Path.{_≡_}
 use mathlib.Core.Bool.{Bool, false, _&&_, cond}
 use mathlib.Core.List.{List, _++_}
 use lib.ListN.{length, take, drop}
+use lib.Seq.{sets}
 use lib.Dec.{ltb, eqb}
 use Rattle.tree.specs.declared.Limits.{Limits}
 use Rattle.tree.specs.declared.Node.{Node}
 use Rattle.tree.specs.declared.Decision.the-variants.{Leaf}
 use Rattle.tree.specs.Splits.{inside, rightsIn}
 use Rattle.tree.specs.Flags.{flagsFor}
-use Rattle.tree.specs.Rows.{rowOf, rowAt}
+use Rattle.tree.specs.Rows.{Row, rowOf, rowAt}
+use Rattle.tree.specs.Run.{Run}
 use Rattle.tree.specs.Back.{sameRow}
-use Rattle.unit.specs.declared.Answer.the-variants.{Accepted}
-use Rattle.unit.specs.Answers.{Outcome, refused, deliver}
+use Rattle.unit.specs.declared.Answer.{Answer}
+use Rattle.unit.specs.declared.Answer.the-variants.{Accepted, Refused}
+use Rattle.unit.specs.Answers.{Outcome, refused, deliver, answerOf}
 use Rattle.nodes.specs.State.{placeOf, countOf, numberOf, refusedAt}
 
 -- the bytes are one row, the root's own, and the root lies inside the picture: it is a leaf
 abbrev pub leafAlone : Limits → Node → List ℕ → Bool
 leafAlone l root bytes = eqb (length bytes) 8 && (sameRow (rowAt bytes 0) (rowOf root) && inside l root)
 
--- the flags of a root that is a leaf, by its open splits; 17 where the buffer is too short
-abbrev pub deliverLeaf : ℕ → List ℕ → Outcome
-deliverLeaf splits buffer = deliver 17 (length (flagsFor (rightsIn false splits) Leaf)) (flagsFor (rightsIn false splits) Leaf) buffer
+-- the flags of a root that is a leaf, by its open splits
+abbrev pub leafFlags : ℕ → List ℕ
+leafFlags splits = flagsFor (rightsIn false splits) Leaf
 
--- the flags in a scratch table: 16 where rows are left, 17 where the buffer is too short
-unfoldable pub deliverFlags : ℕ → List ℕ → List ℕ → List ℕ → Outcome
-deliverFlags answer scratch rows buffer =
+-- their delivery; 17 where the buffer is too short
+abbrev pub deliverLeaf : ℕ → List ℕ → Outcome
+deliverLeaf splits buffer = deliver 17 (length (leafFlags splits)) (leafFlags splits) buffer
+
+-- what the number that a walk answers says of the rows: a refusal, 16 too where rows are left, or the count of flags
+unfoldable pub walkEnd : ℕ → List ℕ → Answer
+walkEnd answer rows =
     cond (ltb answer 9223372036854775808)
-    (cond (ltb (placeOf answer) (length rows / 8)) (refused 16 0 buffer)
-    (cond (ltb (length buffer) (countOf answer)) (refused 17 (countOf answer) buffer)
-    (record { answer = Accepted (countOf answer); buffer = take (countOf answer) scratch ++ drop (countOf answer) buffer })))
-    (refused (numberOf answer) (refusedAt answer) buffer)
+    (cond (ltb (placeOf answer) (length rows / 8)) (Refused 16 0) (Accepted (countOf answer)))
+    (Refused (numberOf answer) (refusedAt answer))
+
+-- the first flags of a scratch table into a buffer; 17 where it is too short
+unfoldable pub deliverFlags : ℕ → List ℕ → List ℕ → Outcome
+deliverFlags n scratch buffer =
+    cond (ltb (length buffer) n) (refused 17 n buffer) (record { answer = Accepted n; buffer = take n scratch ++ drop n buffer })
+
+-- the answer of a test, and a scratch table, long enough, with its flags put at the front
+pub record Kept (run : Run ℕ (List Row)) (said : Answer) (before after : List ℕ) : Type 0 where
+  pub answers : said ≡ answerOf run
+  pub flags : after ≡ sets before 0 (run .given)
+  pub few : length (run .given) ≤ 8192

@@ -1,18 +1,18 @@
 // The end of a way back: 16 where rows are left, 17, or its flags in the lent buffer. Nothing is written before all
 // are passed.
-use crate::compare::same_row;
-use crate::put::some_open;
-use crate::scratch::Scratch;
+use back::Scratch;
+use back::same_row;
+use back::some_open;
 use nodes::Child;
 use tree::Limits;
 use tree::Node;
 use unit::Answer;
 ghost use mathlib.Core.Path.{_≡_};
-ghost use Prim.Native.Nat.{_≤_, _<_};
+ghost use Prim.Native.Nat.{_≤_};
+ghost use lib.ListN.{length};
 ghost use Rattle.unit.specs.Answers.{Meets};
 ghost use Rattle.nodes.specs.Rooted.{Rooted};
-ghost use Rattle.nodes.specs.State.{countOf};
-ghost use Rattle.writer.specs.Delivery.{leafAlone, deliverLeaf, deliverFlags};
+ghost use Rattle.writer.specs.Delivery.{leafAlone, leafFlags, deliverLeaf, walkEnd, deliverFlags};
 
 // Whether the only row is the root's own, and the root lies inside the picture: then it is a leaf.
 pub(crate) fn is_leaf(l: Limits, root: Node, rows: &[u8]) -> bool
@@ -29,8 +29,14 @@ pub(crate) fn is_leaf(l: Limits, root: Node, rows: &[u8]) -> bool
     }
 }
 
-// The way back of a root that is a leaf, by its open splits: where one is open, its split flag, which is 0, else no
-// flag.
+// How many flags a root has that is a leaf: its split flag, where some split is open.
+pub(crate) fn leaf_count(splits: u32) -> usize
+    ensures { λ r. ⌜ r ≡ length (leafFlags splits) ⌝ }
+{
+    if some_open(splits) { 1 } else { 0 }
+}
+
+// The way back of a root that is a leaf, by its open splits: its split flag, if any, is 0.
 pub(crate) fn leaf_flags(splits: u32, flags: &mut [u8]) -> Answer
     ensures { λ r. ⌜ Meets (deliverLeaf splits (now (flags .entry))) r (now (flags .exit)) ⌝ }
 {
@@ -44,10 +50,9 @@ pub(crate) fn leaf_flags(splits: u32, flags: &mut [u8]) -> Answer
     Answer::Accepted(1)
 }
 
-// The way back that a walk answered, its flags in a scratch table.
-pub(crate) fn all_flags(answer: u64, scratch: &Scratch, rows: &[u8], flags: &mut [u8]) -> Answer
-    requires { ⌜ (answer < 9223372036854775808 → countOf answer ≤ 8192) ⌝ }
-    ensures { λ r. ⌜ Meets (deliverFlags answer (now (scratch .entry)) (now (rows .entry)) (now (flags .entry))) r (now (flags .exit)) ⌝ }
+// What a walk that answered a number says of the rows.
+pub(crate) fn walk_end(answer: u64, rows: &[u8]) -> Answer
+    ensures { λ r. ⌜ r ≡ walkEnd answer (now (rows .entry)) ⌝ }
 {
     let Child::Walked(end) = nodes::taken_apart(answer) else {
         return Answer::Refused(nodes::refusal_number(answer), nodes::refusal_place(answer));
@@ -55,7 +60,14 @@ pub(crate) fn all_flags(answer: u64, scratch: &Scratch, rows: &[u8], flags: &mut
     if nodes::place(end) < rows.len() / 8 {
         return Answer::Refused(16, 0);
     }
-    let n = nodes::count(end);
+    Answer::Accepted(nodes::count(end))
+}
+
+// The first n flags of a scratch table into the lent buffer.
+pub(crate) fn all_flags(n: usize, scratch: &Scratch, flags: &mut [u8]) -> Answer
+    requires { ⌜ n ≤ 8192 ⌝ }
+    ensures { λ r. ⌜ Meets (deliverFlags n (now (scratch .entry)) (now (flags .entry))) r (now (flags .exit)) ⌝ }
+{
     if flags.len() < n {
         return Answer::Refused(17, n);
     }

@@ -34,7 +34,7 @@ returns c =
     let nu = c .before in
     let ua = nu .before .before in
     let a = ua .before .before .before .args in
-    unit-refused (a .s) (a .address) (ua .unit-at .ensures) (now (a .rows)) (now (a .flags)) (nu .number .given .1)
+    unit-refused (a .s) (a .address) (ua .unit-at .ensures) (now (a .rows)) (nu .number .given .1) (now (a .flags))
 
 same-length : tie.Need-same-length
 same-length c = search needs
@@ -47,7 +47,7 @@ returns-2 c =
     let q = li .before .before in
     let ua = q .before .before in
     let a = ua .before .before .before .args in
-    unit-written (a .s) (a .address) (ua .unit-at .ensures) (now (a .rows)) (now (a .flags)) (q .q .given .1) (li .limits .ensures) (ro .root .ensures) (wr .write-rows .ensures)
+    unit-written (a .s) (a .address) (ua .unit-at .ensures) (now (a .rows)) (q .q .given .1) (li .limits .ensures) (ro .root .ensures) (now (a .flags)) (wr .write-rows .ensures)
 
 pub write-flags-spec : {M : Type 1} → statement M
 write-flags-spec =

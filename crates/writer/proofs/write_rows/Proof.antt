@@ -9,7 +9,7 @@ use Rattle.writer.proofs.write_rows.Tie as tie
 returns : tie.Need-returns
 returns c =
     let a = c .before .before .before .args in
-    rows-refused (a .l) (a .root) (now (a .rows)) (now (a .flags)) (c .if1 .taken)
+    rows-refused (a .l) (a .root) (now (a .rows)) (c .if1 .taken) (now (a .flags))
 
 is-leaf-requires : tie.Need-is-leaf-requires
 is-leaf-requires c κs = search needs
@@ -33,7 +33,7 @@ returns-2 c =
     let th = op .before in
     let il = th .before in
     let st = il .before .before .before .before in
-    leaf-delivered (st .pre) (now (st .args .rows)) (now (st .args .flags)) (sym (il .is-leaf .ensures) ∙ th .if2 .taken) (op .open-splits .ensures) (lf .leaf-flags .ensures)
+    leaf-delivered (st .pre) (now (st .args .rows)) (sym (il .is-leaf .ensures) ∙ th .if2 .taken) (op .open-splits .ensures) (now (st .args .flags)) (lf .leaf-flags .ensures)
 
 same-length-2 : tie.Need-same-length-2
 same-length-2 c = search needs

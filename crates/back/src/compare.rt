@@ -1,0 +1,37 @@
+// The next row of a table, compared with a node's own.
+ghost use mathlib.Core.Path.{_≡_};
+ghost use Prim.Native.Nat.{_+_, _*_, _≤_, _<_};
+ghost use lib.ListN.{length, getD};
+ghost use lib.Dec.{eqb};
+ghost use Rattle.back.specs.Ahead.{wordAt, Eight};
+
+// A byte of a table, as part of a row's number.
+fn part(rows: &[u8], i: usize) -> u64
+    requires { ⌜ i < length (now rows) ⌝ }
+    ensures { λ r. ⌜ (r ≡ getD (now (rows .entry)) i 0) × (r < 256) ⌝ }
+{
+    rows[i] as u64
+}
+
+// The 8 bytes from a place on as one number, low byte first.
+fn word_at(rows: &[u8], i: usize) -> u64
+    requires { ⌜ i + 8 ≤ length (now rows) ⌝ }
+    ensures { λ r. ⌜ (r ≡ wordAt (now (rows .entry)) i) × Eight (now (rows .entry)) i ⌝ }
+{
+    part(rows, i)
+        + part(rows, i + 1) * 256
+        + part(rows, i + 2) * 65536
+        + part(rows, i + 3) * 16777216
+        + part(rows, i + 4) * 4294967296
+        + part(rows, i + 5) * 1099511627776
+        + part(rows, i + 6) * 281474976710656
+        + part(rows, i + 7) * 72057594037927936
+}
+
+// Whether the row with a number is a node's, given as one number.
+pub fn same_row(rows: &[u8], at: usize, row: u64) -> bool
+    requires { ⌜ at * 8 + 8 ≤ length (now rows) ⌝ }
+    ensures { λ r. ⌜ (r ≡ eqb (wordAt (now (rows .entry)) (at * 8)) row) × Eight (now (rows .entry)) (at * 8) ⌝ }
+{
+    word_at(rows, at * 8) == row
+}

@@ -1,0 +1,129 @@
+-- The test of a unit's rows: it stops with their fault, or some coding tree has them, and it gives the tree's flags.
+use Prim.Native.Nat.{ℕ, _/_, _%_}
+use mathlib.Core.Path.{_≡_, refl, sym, ap, subst, _∙_}
+use mathlib.Core.List.{List, []}
+use mathlib.Core.Logic.{inl, inr}
+use native.Mathlib.Omega.{arith}
+use native.Mathlib.Decide.{ℕ-discrete}
+use borrow.Author.Tests.{eq-eqb, ne-eqb}
+use lib.ListN.{length}
+use Rattle.settings.specs.declared.Settings.{Settings}
+use Rattle.settings.specs.Units.{unitRefusal}
+use Rattle.tree.specs.Rows.{tableBytes}
+use Rattle.tree.specs.Run.{stops, refuse}
+use Rattle.tree.specs.Tree.{flagsOf, rowsOf}
+use Rattle.laws.proofs.Runs.{gives}
+use Rattle.laws.proofs.Tests.{never}
+use Rattle.laws.proofs.Turning.{TurningIsTree}
+use Rattle.unit.specs.declared.Answer.the-variants.{Accepted}
+use Rattle.unit.specs.Answers.{answerOf}
+use Rattle.unit.specs.Luma.{kindOf, rootAt}
+use Rattle.unit.specs.Writer.{flagsFrom, testRows, testUnit}
+use Rattle.unit.specs.Exactly.{UnitTree, Bytes}
+use Rattle.unit.specs.Faults.{RowsFault, rows-unit, rows-cut, rows-none}
+use Rattle.unit.proofs.Roots.{root-of}
+use Rattle.unit.proofs.RootTree.{root-turning, root-tested}
+use Rattle.unit.proofs.Parsed.{rowsIn, bytes-back}
+use Rattle.unit.proofs.TreeTurning.{RowsTurned, tree-turned, turned-or-refused}
+use Rattle.unit.proofs.UnitFaults.{unit-fault, unit-refused}
+
+-- whole rows of a unit that is there, and the tree that has them
+pub record Passed (s : Settings) (a : ℕ) (bytes : List ℕ) : Type 0 where
+  pub there : unitRefusal s a ≡ 0
+  pub whole : length bytes % 8 ≡ 0
+  pub tree : UnitTree s a
+  pub rows : rowsOf tree ≡ rowsIn bytes
+  pub gives-flags : testUnit s a bytes ≡ gives (flagsOf tree) []
+
+-- what the test finds
+pub data Tested (s : Settings) (a : ℕ) (bytes : List ℕ) : Type 0 where
+  faulty : {number place : ℕ} → RowsFault s a bytes number place → testUnit s a bytes .end ≡ stops number place
+      → Tested s a bytes
+  passed : Passed s a bytes → Tested s a bytes
+
+module _ (s : Settings) (a : ℕ) where
+  -- a unit that is not there
+  untested : ¬ (unitRefusal s a ≡ 0) → (bytes : List ℕ) → testUnit s a bytes ≡ refuse (unitRefusal s a) 0
+  unfolding testUnit
+  untested h bytes = rw (ne-eqb (unitRefusal s a) 0 h)
+
+  module _ (h : unitRefusal s a ≡ 0) where
+    turning : TurningIsTree (kindOf s) (rootAt s a)
+    turning = root-turning (root-of s a h)
+
+    pub unit-tested : (bytes : List ℕ) → testUnit s a bytes ≡ testRows (kindOf s) (rootAt s a) bytes
+    unfolding testUnit
+    unit-tested bytes = rw (eq-eqb (unitRefusal s a) 0 h)
+
+    -- bytes that are no whole rows, whole rows, and those of a tree
+    cut-tested : (bytes : List ℕ) → ¬ (length bytes % 8 ≡ 0) → testUnit s a bytes ≡ refuse 15 (length bytes / 8)
+    unfolding testRows
+    cut-tested bytes e = unit-tested bytes ∙ rw (ne-eqb (length bytes % 8) 0 e)
+
+    whole-tested : (bytes : List ℕ) → length bytes % 8 ≡ 0
+        → testUnit s a bytes ≡ flagsFrom (kindOf s) (rootAt s a) (rowsIn bytes)
+    unfolding testRows
+    whole-tested bytes e = unit-tested bytes ∙ rw (eq-eqb (length bytes % 8) 0 e)
+
+    pub tree-tested : (t : UnitTree s a) → testUnit s a (tableBytes (rowsOf t)) ≡ gives (flagsOf t) []
+    tree-tested t = unit-tested (tableBytes (rowsOf t)) ∙ root-tested (root-of s a h) t
+
+  module _ (bytes : List ℕ) where
+    -- rows that stop the test are those of no tree
+    pub none-has : unitRefusal s a ≡ 0 → {number place : ℕ} → testUnit s a bytes .end ≡ stops number place
+        → (t : UnitTree s a) → ¬ (tableBytes (rowsOf t) ≡ bytes)
+    none-has h w t e =
+        let g : testUnit s a bytes .end ≡ gives (flagsOf t) [] .end = ap (λ r. r .end) (rw e at (tree-tested h t)) in
+        never (cc)
+
+    whole-rows : unitRefusal s a ≡ 0 → length bytes % 8 ≡ 0 → RowsTurned (kindOf s) (rootAt s a) (rowsIn bytes)
+        → Tested s a bytes
+    whole-rows h w (inl t) = passed (record {
+      there = h;
+      whole = w;
+      tree = t .0;
+      rows = t .1;
+      gives-flags = whole-tested h bytes w ∙ rw (← (t .1)) (tree-turned (turning h) (t .0));
+    })
+    whole-rows h w (inr f) =
+        let e = ap (λ r. r .end) (whole-tested h bytes w) ∙ f in
+        faulty (rows-none h w (none-has h e)) e
+
+    pub tested : Tested s a bytes
+    tested = go (ℕ-discrete (unitRefusal s a) 0)
+      where
+        there : unitRefusal s a ≡ 0 → Dec (length bytes % 8 ≡ 0) → Tested s a bytes
+        there h (yes w) = whole-rows h w (turned-or-refused (turning h) (rowsIn bytes))
+        there h (no w) = faulty (rows-cut h w) (ap (λ r. r .end) (cut-tested h bytes w))
+
+        go : Dec (unitRefusal s a ≡ 0) → Tested s a bytes
+        go (yes h) = there h (ℕ-discrete (length bytes % 8) 0)
+        go (no h) =
+            faulty (rows-unit (unit-fault s a (unitRefusal s a) refl (omega arith))) (ap (λ r. r .end) (untested h bytes))
+
+    -- rows that are accepted
+    pub passes : {count : ℕ} → answerOf (testUnit s a bytes) ≡ Accepted count → Passed s a bytes
+    passes {count} e = go tested
+      where
+        go : Tested s a bytes → Passed s a bytes
+        go (faulty f w) = let g = rw w at e in never (cc)
+        go (passed p) = p
+
+    module _ (small : Bytes bytes) where
+      -- bytes say the table of the tree that has their rows
+      pub table-of : (p : Passed s a bytes) → tableBytes (rowsOf (p .tree)) ≡ bytes
+      table-of p = ap tableBytes (p .rows) ∙ bytes-back bytes small (p .whole)
+
+      -- a fault stops the test
+      pub fault-stops : {number place : ℕ} → RowsFault s a bytes number place → testUnit s a bytes .end ≡ stops number place
+      fault-stops (rows-unit f) =
+          let u = unit-refused s a f in
+          let e = u .0 in
+          let l = u .1 in
+          ap (λ r. r .end) (untested (λ z. omega arith) bytes) ∙ rw (u .0)
+      fault-stops (rows-cut h w) = ap (λ r. r .end) (cut-tested h bytes w)
+      fault-stops (rows-none h w none) = go (turned-or-refused (turning h) (rowsIn bytes))
+        where
+          go : RowsTurned (kindOf s) (rootAt s a) (rowsIn bytes) → testUnit s a bytes .end ≡ stops 16 0
+          go (inl t) = absurd (none (t .0) (ap tableBytes (t .1) ∙ bytes-back bytes small w))
+          go (inr f) = ap (λ r. r .end) (whole-tested h bytes w) ∙ f
