@@ -9,6 +9,8 @@ use Rattle.settings.specs.Checks.{settingsRefusal}
 use Rattle.settings.specs.Units.{unitCount, countOf, countNumber}
 use Rattle.unit.specs.Faults.{readNumbers, turnNumbers}
 use Rattle.unit.proofs.Decided.{zero-accepts}
+use Rattle.page.specs.PartitionPage.{pageNumbers}
+use Rattle.page.proofs.PartitionPage.{partition-page}
 use Rattle.picture.specs.declared.Opened.the-variants as opened
 use Rattle.picture.specs.Session.{opening, openedNumber}
 use Rattle.picture.specs.Demand1.{callNumbers}
@@ -42,6 +44,7 @@ pub told : Told
 told = record {
   reads = λ s a flags buffer. zero-accepts readNumbers refl _ (demand1 .reads s a flags buffer .uses);
   turns = λ s a bytes small buffer. zero-accepts turnNumbers refl _ (demand1 .turns s a bytes small buffer .uses);
+  pages = λ s a bytes small page. zero-accepts pageNumbers refl _ (partition-page .decided s a bytes small page .uses);
   calls = λ t c. zero-accepts callNumbers refl _ (demand1 .calls t c .uses);
   opens = opens;
   counts = counts;

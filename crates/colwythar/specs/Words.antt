@@ -13,6 +13,7 @@ use Rattle.unit.specs.Answers.{numberOf, valueOf, ZeroIsAccepted, Outcome}
 use Rattle.unit.specs.Reader.{readUnit}
 use Rattle.unit.specs.Writer.{writeFlags}
 use Rattle.unit.specs.Exactly.{Bytes}
+use Rattle.page.specs.Page.{writePage}
 use Rattle.picture.specs.declared.Session.{Session}
 use Rattle.picture.specs.declared.Opened.{Opened}
 use Rattle.picture.specs.declared.Opened.the-variants as opened
@@ -64,6 +65,8 @@ pub record Told : Type 0 where
   pub reads : (s : Settings) (a : ℕ) (flags buffer : List ℕ) → ZeroIsAccepted (readUnit s a flags buffer .answer)
   pub turns : (s : Settings) (a : ℕ) (bytes : List ℕ) → Bytes bytes → (buffer : List ℕ)
       → ZeroIsAccepted (writeFlags s a bytes buffer .answer)
+  pub pages : (s : Settings) (a : ℕ) (bytes : List ℕ) → Bytes bytes → (page : List ℕ)
+      → ZeroIsAccepted (writePage s a bytes page .answer)
   pub calls : (t : Session) (c : Call) → ZeroIsAccepted (unitCall t c .answer)
   pub opens : (s : Settings) → (openedNumber (opening s) ≡ 0) ↔ (opening s ≡ opened.Fresh (record { settings = s; due = 0 }))
   pub counts : (s : Settings) → (countNumber (countOf s) ≡ 0) ↔ (countOf s ≡ count.Units (unitCount s))

@@ -9,6 +9,7 @@ ghost use Rattle.settings.specs.Units.{countOf, countNumber};
 ghost use Rattle.settings.specs.Words.{settingsIn};
 ghost use Rattle.unit.specs.Reader.{readUnit};
 ghost use Rattle.unit.specs.Writer.{writeFlags};
+ghost use Rattle.page.specs.Page.{writePage};
 ghost use Rattle.picture.specs.Session.{opening, call};
 ghost use Rattle.colwythar.specs.Words.{answerWords, dueAfter, unitsOf, countWords, sessionIn, Leaves, OpensTo, Moves};
 
@@ -47,6 +48,22 @@ pub extern "C" fn colwythar_write_flags(
 {
     let s = settings::from_words(settings);
     let a = writer::write_flags(s, address as usize, rows, flags);
+    put_answer(a, answer);
+}
+
+// Prints the rows of a unit on the lent page, one row a line: refusals 1 to 10, 15, 16 and 23, or the number of bytes.
+#[no_mangle]
+pub extern "C" fn colwythar_page(
+    settings: &[u32; 8],
+    address: u64,
+    rows: &[u8],
+    page: &mut [u8],
+    answer: &mut [u64; 2],
+)
+    ensures { λ _. ⌜ Leaves (writePage (settingsIn (now (settings .entry))) address (now (rows .entry)) (now (page .entry))) (now (answer .exit)) (now (page .exit)) ⌝ }
+{
+    let s = settings::from_words(settings);
+    let a = page::write_page(s, address as usize, rows, page);
     put_answer(a, answer);
 }
 

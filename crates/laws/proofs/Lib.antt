@@ -12,6 +12,7 @@ pub mod Counts
 pub mod Cover
 pub mod Cuts
 pub mod Decisions
+pub mod DepthBound
 pub mod Depths
 pub mod Directions
 pub mod Edge

@@ -6,7 +6,7 @@ use mathlib.Core.List.{List, [], _∷_, _++_}
 use mathlib.Core.Logic.{inl, inr}
 use native.Mathlib.Omega.{arith}
 use native.Mathlib.Decide.{ℕ-discrete}
-use borrow.Author.Tests.{ne-eqb}
+use borrow.Author.Tests.{eq-eqb, ne-eqb}
 use lib.ListN.{length}
 use lib.Dec.{eqb}
 use Rattle.sides.proofs.Bools.{clash, and-left, and-right}
@@ -57,19 +57,20 @@ module _ {Lent : Type 0} (Fault : ℕ → ℕ → Type 0) (numbers : List ℕ) {
     leaves = λ number place e. complete number place (sound number place e) .1;
   }
 
+-- a number that is none of a list, by a test of all
+abbrev pub lacks : ℕ → List ℕ → Bool
+lacks m [] = true
+lacks m (n ∷ ns) = not (eqb n m) && lacks m ns
+
+pub not-listed : (m : ℕ) (numbers : List ℕ) → lacks m numbers ≡ true → ¬ OneOf m numbers
+not-listed m (n ∷ ns) p (inl e) = let f : not (eqb n m) ≡ false = ap not (eq-eqb n m (sym e)) in clash (and-left (not (eqb n m)) _ p) f
+not-listed m (n ∷ ns) p (inr o) = not-listed m ns (and-right (not (eqb n m)) _ p) o
+
 -- an answer that uses numbers of a list without 0 has the number 0 exactly where it accepts
-abbrev positive : List ℕ → Bool
-positive [] = true
-positive (n ∷ ns) = not (eqb n 0) && positive ns
-
-no-zero : (numbers : List ℕ) → positive numbers ≡ true → ¬ OneOf 0 numbers
-no-zero (n ∷ ns) p (inl e) = let f : not (eqb n 0) ≡ false = rw (← e) in clash (and-left (not (eqb n 0)) _ p) f
-no-zero (n ∷ ns) p (inr o) = no-zero ns (and-right (not (eqb n 0)) _ p) o
-
-pub zero-accepts : (numbers : List ℕ) → positive numbers ≡ true → (answer : Answer) → AcceptedOr numbers answer
+pub zero-accepts : (numbers : List ℕ) → lacks 0 numbers ≡ true → (answer : Answer) → AcceptedOr numbers answer
     → ZeroIsAccepted answer
 zero-accepts numbers p (Accepted count) a = (λ e. (count, refl), λ x. refl)
-zero-accepts numbers p (Refused number place) a = (λ e. absurd (no-zero numbers p (subst (λ n. OneOf n numbers) e a)), λ x. ap (λ y. numberOf y) (x .1))
+zero-accepts numbers p (Refused number place) a = (λ e. absurd (not-listed 0 numbers p (subst (λ n. OneOf n numbers) e a)), λ x. ap (λ y. numberOf y) (x .1))
 
 -- an outcome that is a refusal: its answer, and the buffer as it was
 pub is-refused : {o : Outcome} {number place : ℕ} {buffer : List ℕ} → o ≡ refused number place buffer

@@ -1,0 +1,8 @@
+pub mod Cells
+pub mod Digits
+pub mod Fitting
+pub mod Places
+pub mod Sides
+pub mod Stores
+pub mod Passing
+pub mod PartitionPage

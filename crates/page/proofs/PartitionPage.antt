@@ -1,0 +1,76 @@
+-- R-1 for every unit: `PartitionPage`.
+use Prim.Native.Nat.{ℕ, _*_}
+use mathlib.Core.Path.{_≡_, refl, sym, ap, _∙_}
+use mathlib.Core.List.{List, [], _∷_}
+use mathlib.Core.Logic.{_↔_, inl, inr}
+use native.Mathlib.Omega.{arith}
+use lib.ListN.{length}
+use Rattle.settings.specs.declared.Settings.{Settings}
+use Rattle.settings.specs.Units.{unitRefusal}
+use Rattle.tree.specs.Rows.{tableBytes}
+use Rattle.tree.specs.Run.{stops}
+use Rattle.tree.specs.Tree.{rowsOf}
+use Rattle.laws.specs.Every.{Every}
+use Rattle.laws.proofs.Every.{every-map}
+use Rattle.laws.proofs.Tests.{never}
+use Rattle.unit.specs.declared.Answer.the-variants.{Refused}
+use Rattle.unit.specs.Answers.{refused, deliver, finishEnd}
+use Rattle.unit.specs.Cases.{row}
+use Rattle.unit.specs.Writer.{testUnit, writeFlags}
+use Rattle.unit.specs.Exactly.{UnitTree, OneOf, Bytes}
+use Rattle.unit.specs.Faults.{rowsNumbers, Decides}
+use Rattle.unit.proofs.Accepts.{undelivered}
+use Rattle.unit.proofs.Decided.{not-listed, tested-decides}
+use Rattle.unit.proofs.Parsed.{rowsIn}
+use Rattle.unit.proofs.RootTree.{root-said}
+use Rattle.unit.proofs.Roots.{root-of}
+use Rattle.unit.proofs.Tested.{Passed, Tested, faulty, passed, tested, tree-tested}
+use Rattle.unit.proofs.TurnsExactly.{write-stopped, write-given}
+use Rattle.page.specs.Lines.{digitsIn, digits, column, rowColumns, line, lines}
+use Rattle.page.specs.Page.{pageText, writePage}
+use Rattle.page.specs.PartitionPage.{PageFault, pageNumbers, Printed, PartitionPage}
+use Rattle.page.proofs.Fitting.{lines-long}
+use Rattle.page.proofs.Passing.{tree-fits, tree-wide, page-stopped, page-given}
+
+-- ---- of the trees of a unit that is there
+
+module _ (s : Settings) (a : ℕ) (h : unitRefusal s a ≡ 0) where
+  prints : (t : UnitTree s a) (page : List ℕ) → writePage s a (tableBytes (rowsOf t)) page ≡ deliver 23 (33 * length (rowsOf t)) (lines a (rowsOf t)) page
+  prints t page =
+      page-given s a (tableBytes (rowsOf t)) page (ap (λ r. r .end) (tree-tested s a h t))
+      ∙ rw (root-said (root-of s a h) t, lines-long a (tree-wide s a h t))
+
+  printed : Printed s a
+  printed = record {
+    prints = prints;
+    wide = tree-wide s a h;
+    fits = tree-fits s a h;
+  }
+
+-- ---- what is refused
+
+-- the page of rows that pass is their tree's
+page-passed : (s : Settings) (a : ℕ) (bytes page : List ℕ) (p : Passed s a bytes)
+    → writePage s a bytes page ≡ deliver 23 (length (lines a (rowsOf (p .tree)))) (lines a (rowsOf (p .tree))) page
+page-passed s a bytes page p = page-given s a bytes page (ap (λ r. r .end) (p .gives-flags)) ∙ rw (← (p .rows))
+
+module _ (s : Settings) (a : ℕ) (bytes page buffer : List ℕ) (number place : ℕ) (o : OneOf number rowsNumbers) where
+  both : (writePage s a bytes page .answer ≡ Refused number place) ↔ (writeFlags s a bytes buffer .answer ≡ Refused number place)
+  both = go (tested s a bytes)
+    where
+      go : Tested s a bytes → (writePage s a bytes page .answer ≡ Refused number place) ↔ (writeFlags s a bytes buffer .answer ≡ Refused number place)
+      go (faulty f w) = rw (page-stopped s a bytes page _ _ w, write-stopped s a bytes buffer _ _ w) (λ e. e, λ e. e)
+      go (passed p) = (
+        λ e. let d = undelivered 23 _ _ page (rw (page-passed s a bytes page p) at e) .0 in absurd (not-listed 23 rowsNumbers refl (rw (← d) at o)),
+        λ e. let d = undelivered 17 _ _ buffer (rw (write-given s a bytes buffer (p .gives-flags)) at e) .0 in absurd (not-listed 17 rowsNumbers refl (rw (← d) at o)),
+      )
+
+pub partition-page : PartitionPage
+unfolding digitsIn digits column rowColumns line
+partition-page = record {
+  printed = printed;
+  decided = λ s a bytes small page.
+      tested-decides s a bytes small page 23 (λ t. lines a (rowsOf t)) (writePage s a bytes page) (page-stopped s a bytes page) (page-passed s a bytes page);
+  others = both;
+  p2 = refl;
+}
