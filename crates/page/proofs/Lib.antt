@@ -2,7 +2,6 @@ pub mod Cells
 pub mod Digits
 pub mod Fitting
 pub mod Places
-pub mod Sides
 pub mod Stores
 pub mod Passing
 pub mod PartitionPage

@@ -32,9 +32,3 @@ fourBytes t = t % 256 ∷ t / 256 % 256 ∷ t / 65536 % 256 ∷ t / 16777216 % 2
 
 abbrev pub sixBytes : ℕ → List ℕ
 sixBytes t = t % 256 ∷ t / 256 % 256 ∷ t / 65536 % 256 ∷ t / 16777216 % 256 ∷ t / 4294967296 % 256 ∷ t / 1099511627776 % 256 ∷ []
-
--- the sides 1, 2, 4 to 128 in 4 columns each
-unfoldable pub sideTable : List ℕ
-sideTable =
-    32 ∷ 32 ∷ 32 ∷ 49 ∷ 32 ∷ 32 ∷ 32 ∷ 50 ∷ 32 ∷ 32 ∷ 32 ∷ 52 ∷ 32 ∷ 32 ∷ 32 ∷ 56
-    ∷ 32 ∷ 32 ∷ 49 ∷ 54 ∷ 32 ∷ 32 ∷ 51 ∷ 50 ∷ 32 ∷ 32 ∷ 54 ∷ 52 ∷ 32 ∷ 49 ∷ 50 ∷ 56 ∷ []

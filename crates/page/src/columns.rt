@@ -20,52 +20,16 @@ pub(crate) fn put_six(page: &mut [u8], at: usize, text: u64)
     page[at + 5] = (text / 1099511627776 % 256) as u8;
 }
 
-// The sides 1, 2, 4 to 128 in 4 columns each.
-const SIDES: [u8; 32] = [
-    32,
-    32,
-    32,
-    49,
-    32,
-    32,
-    32,
-    50,
-    32,
-    32,
-    32,
-    52,
-    32,
-    32,
-    32,
-    56,
-    32,
-    32,
-    49,
-    54,
-    32,
-    32,
-    51,
-    50,
-    32,
-    32,
-    54,
-    52,
-    32,
-    49,
-    50,
-    56,
-];
-
 // A side in 4 columns, from its exponent.
 pub(crate) fn put_side(page: &mut [u8], at: usize, exponent: u8)
-    requires { ⌜ (at + 4 ≤ length (now page)) × (exponent < 8) ⌝ }
+    requires { ⌜ (at + 4 ≤ length (now page)) × (2 ≤ exponent) × (exponent < 8) ⌝ }
     ensures { λ _. ⌜ now (page .exit) ≡ sets (now (page .entry)) at (column 4 (2 ^ exponent)) ⌝ }
 {
-    let i = exponent as usize * 4;
-    page[at] = SIDES[i];
-    page[at + 1] = SIDES[i + 1];
-    page[at + 2] = SIDES[i + 2];
-    page[at + 3] = SIDES[i + 3];
+    let text = text::side(exponent);
+    page[at] = (text % 256) as u8;
+    page[at + 1] = (text / 256 % 256) as u8;
+    page[at + 2] = (text / 65536 % 256) as u8;
+    page[at + 3] = (text / 16777216 % 256) as u8;
 }
 
 // A depth in 3 columns; those of a tree have two digits at most.

@@ -1,6 +1,6 @@
 // A number's characters in one number, the first in the lowest byte, so that few stores write them.
 ghost use mathlib.Core.Path.{_≡_};
-ghost use Prim.Native.Nat.{_<_};
+ghost use Prim.Native.Nat.{_^_, _≤_, _<_};
 ghost use Rattle.page.specs.Lines.{column};
 ghost use Rattle.page.specs.Text.{firstTwo, lastFour, fourDigits, fourMarks, twoBytes, fourBytes, sixBytes};
 
@@ -60,4 +60,19 @@ pub(crate) fn six(n: u32) -> u64
     ensures { λ r. ⌜ sixBytes r ≡ column 6 n ⌝ }
 {
     first_two(n) as u64 + last_four(n) as u64 * 65536
+}
+
+// A side of a row, 4 to 128, in 4 columns, from its exponent.
+pub(crate) fn side(exponent: u8) -> u32
+    requires { ⌜ (2 ≤ exponent) × (exponent < 8) ⌝ }
+    ensures { λ r. ⌜ fourBytes r ≡ column 4 (2 ^ exponent) ⌝ }
+{
+    match exponent {
+        2 => 0x34202020,
+        3 => 0x38202020,
+        4 => 0x36312020,
+        5 => 0x32332020,
+        6 => 0x34362020,
+        _ => 0x38323120,
+    }
 }

@@ -96,7 +96,7 @@ shared-slice-read-put-side c = search needs
 
 put-side-requires : tie.Need-put-side-requires
 unfolding rowAt
-put-side-requires c κs = let s = from-y (c .before .before .before .before) in let p = s .pre in let w = s .pre .2 .mostW in (omega arith, omega arith)
+put-side-requires c κs = let s = from-y (c .before .before .before .before) in let p = s .pre in let v = s .pre .2 .leastW in let w = s .pre .2 .mostW in (omega arith, omega arith, omega arith)
 
 add-put-side-3 : tie.Need-add-put-side-3
 add-put-side-3 c = search needs
@@ -109,7 +109,7 @@ shared-slice-read-put-side-2 c = search needs
 
 put-side-requires-2 : tie.Need-put-side-requires-2
 unfolding rowAt
-put-side-requires-2 c κs = let s = from-width (c .before .before .before .before) in let p = s .pre in let h = s .pre .2 .mostH in (omega arith, omega arith)
+put-side-requires-2 c κs = let s = from-width (c .before .before .before .before) in let p = s .pre in let g = s .pre .2 .leastH in let h = s .pre .2 .mostH in (omega arith, omega arith, omega arith)
 
 add-put-depth : tie.Need-add-put-depth
 add-put-depth c = search needs
