@@ -12,12 +12,12 @@
  * of the height, QT depth, MTT depth.
  *
  * An answer is two numbers. answer[0] is COLWYTHAR_ACCEPTED, which is 0, where the call is accepted, else the number of
- * the refusal, which is never 0; answer[1] is the count of rows, flags or units, or the refusal's place, 0 where none is
- * named below. A refused call leaves every buffer and the due address as they were; an accepted one leaves the bytes
- * past its answer as they were.
+ * the refusal, which is never 0; answer[1] is the count of rows, flags, units or bytes of a page, or the refusal's place,
+ * 0 where none is named below. A refused call leaves every buffer and the due address as they were; an accepted one leaves
+ * the bytes past its answer as they were.
  *
  * What the caller must see to: pointers are not null, also where their length is 0, and point to as much as their
- * type or length says; what is written to (rows or flags, due, answer) overlaps nothing else that is passed.
+ * type or length says; what is written to (rows, flags or page, due, answer) overlaps nothing else that is passed.
  */
 #ifndef COLWYTHAR_H
 #define COLWYTHAR_H
@@ -54,6 +54,11 @@ extern "C" {
  * when the first row of the next appears. */
 #define COLWYTHAR_PIPELINE_SIDE(ctu) ((ctu) < 64 ? (ctu) : 64)
 
+/* The bytes of a line of a page, and of the page of a unit with COLWYTHAR_MAX_ROWS rows: a page of that length is never
+ * too short. */
+#define COLWYTHAR_LINE_BYTES 33
+#define COLWYTHAR_MAX_PAGE_BYTES 33792
+
 /* The numbers of an answer. Within a group the first that fails, in the order of the numbers, is answered; but 11 and 12
  * are met in the walk, whichever comes first, and the session's are tested in the order 22, 20, 21, before the flags. */
 #define COLWYTHAR_ACCEPTED 0
@@ -88,6 +93,9 @@ extern "C" {
 #define COLWYTHAR_NOT_DUE           21 /* the address is not the due one; place: the due one */
 #define COLWYTHAR_NO_SESSION        22 /* the settings fail 1 to 9, or the due address exceeds the unit count */
 
+/* Printing a page, after 1 to 10, 15 and 16. */
+#define COLWYTHAR_SHORT_PAGE        23 /* page too short; place: the bytes needed */
+
 /* Reads the flags of the unit at an address into the row buffer. Answers the number of rows, or 1 to 14. */
 void colwythar_read_unit(const uint32_t settings[8], uint64_t address, const uint8_t *flags, size_t flags_len,
                          uint8_t *rows, size_t rows_len, uint64_t answer[2]);
@@ -96,6 +104,12 @@ void colwythar_read_unit(const uint32_t settings[8], uint64_t address, const uin
  * and 15 to 17. */
 void colwythar_write_flags(const uint32_t settings[8], uint64_t address, const uint8_t *rows, size_t rows_len,
                            uint8_t *flags, size_t flags_len, uint64_t answer[2]);
+
+/* Prints the rows of the unit at an address into the page, where some flags give them: a line for each row, 33 bytes of
+ * ASCII. Address, X and Y have 6 columns each, width and height in samples 4 each, QT depth and MTT depth 3 each, decimal
+ * and right-aligned with spaces; then a line feed. Answers the number of bytes, or 1 to 10, 15, 16 and 23. */
+void colwythar_page(const uint32_t settings[8], uint64_t address, const uint8_t *rows, size_t rows_len, uint8_t *page,
+                    size_t page_len, uint64_t answer[2]);
 
 /* Counts the units of a picture, also those at its edges. Answers the number of units, or 1 to 9. */
 void colwythar_unit_count(const uint32_t settings[8], uint64_t answer[2]);

@@ -55,6 +55,14 @@ pub struct Class {
     pub units: Vec<Unit>,
 }
 
+impl Class {
+    /// How many rows a unit has, in the mean.
+    pub fn mean_rows(&self) -> f64 {
+        let rows: usize = self.units.iter().map(Unit::row_count).sum();
+        rows as f64 / self.units.len() as f64
+    }
+}
+
 /// All classes, with fixed seeds.
 pub fn all() -> [Class; 5] {
     [one_row(), mixed(), about_64(), full(), quads()]

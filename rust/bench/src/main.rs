@@ -1,7 +1,7 @@
 //! The speed of the engine beside that of two unproved decoders, in one run: `h266`, plain safe
 //! Rust from the standard's text, and `tuned`, safe Rust driven by hand.
 //!
-//! `bench` prints a Markdown table; `bench callgrind ...` runs one kind of call without a clock, so
+//! `bench` prints Markdown tables; `bench callgrind ...` runs one kind of call without a clock, so
 //! that its instructions can be counted. `bench --help` explains both.
 #![forbid(unsafe_code)]
 
@@ -17,14 +17,14 @@ const HELP: &str = "\
 usage: bench
        bench callgrind WORK CLASS CALLS
 
-Without arguments: times reading and the way back for five classes of units, and a worst-case
-second of four cameras, and prints a Markdown table. Each side is warmed up; the sides take turns
-within each round, and the best round counts.
+Without arguments: times reading, the way back and the page for five classes of units, and a
+worst-case second of four cameras, and prints Markdown tables. Each side is warmed up; the sides
+take turns within each round, and the best round counts.
 
 callgrind: makes CALLS calls of one kind, without a clock. WORK is a side (engine, h266 or
-tuned) and a way (read or write), like engine-read; CLASS is 1, mixed, 64, 1024 or quads. Calls go
-round the 256 units of the class, so a multiple of 256 weighs them equally. To count only the
-instructions of the calls:
+tuned) and a way (read, write or page), like engine-read; tuned has no page. CLASS is 1, mixed, 64,
+1024 or quads. Calls go round the 256 units of the class, so a multiple of 256 weighs them equally.
+To count only the instructions of the calls:
 
   valgrind --tool=callgrind --callgrind-out-file=/dev/null \\
       --toggle-collect='*measured_calls*' bench callgrind engine-read 1024 256
@@ -40,6 +40,7 @@ fn main() -> ExitCode {
     match arguments[..] {
         [] => {
             timing::print_table();
+            timing::print_pages();
             camera::print_second();
             ExitCode::SUCCESS
         }

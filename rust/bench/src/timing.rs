@@ -1,9 +1,9 @@
-//! The table: all sides in turn, the best of several rounds.
+//! The tables: all sides in turn, the best of several rounds.
 
 use std::time::{Duration, Instant};
 
 use crate::classes::{self, Class};
-use crate::work::{call, Buffer, Call, Side, Way};
+use crate::work::{Buffer, Side, Way, Work};
 
 /// Rounds, of which the best counts.
 const ROUNDS: usize = 40;
@@ -21,16 +21,15 @@ pub fn print_table() {
     println!(" h266/engine | tuned/engine |");
     println!("|---|---|--:|--:|--:|--:|--:|--:|--:|--:|--:|");
     for class in classes::all() {
-        for way in Way::ALL {
+        for way in [Way::Read, Way::Write] {
             print_line(&class, way);
         }
     }
 }
 
 fn print_line(class: &Class, way: Way) {
-    let rows: usize = class.units.iter().map(|unit| unit.row_count()).sum();
-    let rows = rows as f64 / class.units.len() as f64;
-    let times = measure(class, way);
+    let rows = class.mean_rows();
+    let times = measure(class, Side::ALL.map(|side| (side, way)));
     print!("| {} | {} | {rows:.1} |", class.title, way.title());
     for time in times {
         print!(" {time:.1} | {:.2} |", time / rows);
@@ -39,35 +38,57 @@ fn print_line(class: &Class, way: Way) {
     println!(" {:.2} | {:.2} |", h266 / engine, tuned / engine);
 }
 
-/// Nanoseconds of a unit on each side, after a warm-up.
-fn measure(class: &Class, way: Way) -> [f64; 3] {
-    let calls = Side::ALL.map(|side| call(side, way));
-    let passes = calls.map(|call| warm_up(class, call));
-    let mut best = [f64::MAX; 3];
+/// Prints a line for each class: its pages, beside the engine's way back of the same rows.
+pub fn print_pages() {
+    println!("\nThe page of the same rows; nanoseconds, as above.\n");
+    print!("| units | rows | engine, unit | engine, row | h266, unit | h266, row |");
+    println!(" h266/engine | engine's page/way back |");
+    println!("|---|--:|--:|--:|--:|--:|--:|--:|");
+    for class in classes::all() {
+        print_page_line(&class);
+    }
+}
+
+fn print_page_line(class: &Class) {
+    let rows = class.mean_rows();
+    let (engine, h266) = ((Side::Engine, Way::Page), (Side::H266, Way::Page));
+    let [back, engine, h266] = measure(class, [(Side::Engine, Way::Write), engine, h266]);
+    print!("| {} | {rows:.1} |", class.title);
+    for time in [engine, h266] {
+        print!(" {time:.1} | {:.2} |", time / rows);
+    }
+    println!(" {:.2} | {:.2} |", h266 / engine, engine / back);
+}
+
+/// Nanoseconds of a unit for each kind of call, after a warm-up.
+fn measure<const N: usize>(class: &Class, kinds: [(Side, Way); N]) -> [f64; N] {
+    let works = kinds.map(|(side, way)| Work::of(side, way).expect("a way of this side"));
+    let passes = works.map(|work| warm_up(class, work));
+    let mut best = [f64::MAX; N];
     for _ in 0..ROUNDS {
-        for side in 0..3 {
-            best[side] = best[side].min(time(class, passes[side], calls[side]));
+        for kind in 0..N {
+            best[kind] = best[kind].min(time(class, passes[kind], works[kind]));
         }
     }
     best
 }
 
 /// Calls for the time of a round, and answers how many passes that took.
-fn warm_up(class: &Class, call: Call) -> usize {
+fn warm_up(class: &Class, work: Work) -> usize {
     let (start, mut passes) = (Instant::now(), 0);
     while start.elapsed() < ROUND_TIME {
-        time(class, 1, call);
+        time(class, 1, work);
         passes += 1;
     }
     passes
 }
 
 /// Nanoseconds of a unit over so many passes through the class.
-fn time(class: &Class, passes: usize, call: Call) -> f64 {
-    let mut buffer = Buffer::new();
+fn time(class: &Class, passes: usize, work: Work) -> f64 {
+    let mut buffer = Buffer::new(work.room);
     let start = Instant::now();
     for _ in 0..passes {
-        class.units.iter().for_each(|unit| buffer.lend(call, unit));
+        class.units.iter().for_each(|unit| buffer.lend(work.call, unit));
     }
     start.elapsed().as_nanos() as f64 / (passes * class.units.len()) as f64
 }

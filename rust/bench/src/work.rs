@@ -2,7 +2,7 @@
 
 use std::hint::black_box;
 
-use colwythar::raw;
+use colwythar::{raw, MAX_PAGE_BYTES};
 
 use crate::classes::{Unit, ROOM};
 
@@ -31,15 +31,17 @@ impl Side {
 pub enum Way {
     Read,
     Write,
+    Page,
 }
 
 impl Way {
-    pub const ALL: [Self; 2] = [Self::Read, Self::Write];
+    pub const ALL: [Self; 3] = [Self::Read, Self::Write, Self::Page];
 
     pub fn name(self) -> &'static str {
         match self {
             Self::Read => "read",
             Self::Write => "write",
+            Self::Page => "page",
         }
     }
 
@@ -47,6 +49,15 @@ impl Way {
         match self {
             Self::Read => "reading",
             Self::Write => "way back",
+            Self::Page => "page",
+        }
+    }
+
+    /// Room for what any unit gives.
+    fn room(self) -> usize {
+        match self {
+            Self::Read | Self::Write => ROOM,
+            Self::Page => MAX_PAGE_BYTES,
         }
     }
 }
@@ -55,20 +66,38 @@ impl Way {
 /// is inlined into the loop.
 pub type Call = fn(&Unit, &mut [u8]) -> [u64; 2];
 
+/// A kind of call, and the length of the buffer that it is lent.
+#[derive(Clone, Copy)]
+pub struct Work {
+    pub call: Call,
+    pub room: usize,
+}
+
+impl Work {
+    /// The work of one side and way, where the side has this way: `tuned` has no pages.
+    pub fn of(side: Side, way: Way) -> Option<Self> {
+        Some(Self { call: call(side, way)?, room: way.room() })
+    }
+}
+
 /// The call of one side and way.
-pub fn call(side: Side, way: Way) -> Call {
-    match (side, way) {
+fn call(side: Side, way: Way) -> Option<Call> {
+    Some(match (side, way) {
         (Side::Engine, Way::Read) => {
             |u, lent| raw::read_unit(&u.settings, u.address, &u.flags, lent)
         }
         (Side::Engine, Way::Write) => {
             |u, lent| raw::write_flags(&u.settings, u.address, &u.rows, lent)
         }
+        (Side::Engine, Way::Page) => |u, lent| raw::page(&u.settings, u.address, &u.rows, lent),
         (Side::H266, Way::Read) => {
             |u, lent| h266::read_unit(&u.settings, u.address, &u.flags, lent).into()
         }
         (Side::H266, Way::Write) => {
             |u, lent| h266::write_flags(&u.settings, u.address, &u.rows, lent).into()
+        }
+        (Side::H266, Way::Page) => {
+            |u, lent| h266::page(&u.settings, u.address, &u.rows, lent).into()
         }
         (Side::Tuned, Way::Read) => {
             |u, lent| tuned::read_unit(&u.settings, u.address, &u.flags, lent).into()
@@ -76,15 +105,16 @@ pub fn call(side: Side, way: Way) -> Call {
         (Side::Tuned, Way::Write) => {
             |u, lent| tuned::write_flags(&u.settings, u.address, &u.rows, lent).into()
         }
-    }
+        (Side::Tuned, Way::Page) => return None,
+    })
 }
 
 /// A buffer to lend. It is the same for all calls and is not cleared between them.
 pub struct Buffer(Vec<u8>);
 
 impl Buffer {
-    pub fn new() -> Self {
-        Self(vec![0; ROOM])
+    pub fn new(room: usize) -> Self {
+        Self(vec![0; room])
     }
 
     /// Makes one call into this buffer.

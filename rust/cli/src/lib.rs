@@ -1,5 +1,6 @@
 //! The program `colwythar`: it reads text files of a picture's coding tree units, each given by its
-//! split flags or by its rows, and prints the rows, prints the flags or draws the coding blocks.
+//! split flags or by its rows, and prints the rows, the flags or the pages, or draws the coding
+//! blocks.
 //!
 //! A subcommand is one file in `commands`, which implements [`Command`]; `COMMANDS` lists them.
 //! Everything else is shared: `text` says what the lines are, `reading` gives the units to the

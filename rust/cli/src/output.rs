@@ -5,6 +5,7 @@ use std::fs::File;
 use std::io::{self, BufWriter, Write};
 
 use crate::run::name_of;
+use crate::{Complaint, Context};
 
 /// How much is gathered before it is written.
 const GATHERED: usize = 1 << 16;
@@ -12,6 +13,13 @@ const GATHERED: usize = 1 << 16;
 /// Writes a line to standard error, in one piece. Where it cannot be written, nobody is told.
 pub fn say(err: &mut dyn Write, message: &str) {
     let _ = err.write_all(format!("colwythar: {message}\n").as_bytes());
+}
+
+/// Says what was not accepted of a file, on standard error: the output of a drawing or a page has
+/// no place for it.
+pub fn say_complaint(complaint: &Complaint, context: &mut Context<'_>) -> io::Result<()> {
+    say(context.err, &format!("{}: {complaint}", context.name));
+    Ok(())
 }
 
 /// Standard output, or the file that `-o` names; `-` is standard output there, too.

@@ -25,18 +25,21 @@
 //! # Ok::<(), colwythar::Refusal>(())
 //! ```
 //!
-//! Single units need no session: [`read_unit`] and [`write_flags`].
+//! Single units need no session: [`read_unit`] and [`write_flags`], and [`page()`], which prints the
+//! rows as lines of text.
 //!
 //! The static library is looked for in the folder `COLWYTHAR_LIB_DIR`, else in the repository's
 //! `target/staticlib`, where the build script has it proved and built anew whenever its sources change.
 #![warn(missing_docs)]
 
+mod page;
 pub mod raw;
 mod refusal;
 mod row;
 mod session;
 mod settings;
 
+pub use page::{page, page_text, LINE_BYTES, MAX_PAGE_BYTES};
 pub use refusal::Refusal;
 pub use row::{rows, Row};
 pub use session::Session;

@@ -35,6 +35,15 @@ mod c {
             flags_len: usize,
             answer: *mut u64,
         );
+        pub fn colwythar_page(
+            settings: *const u32,
+            address: u64,
+            rows: *const u8,
+            rows_len: usize,
+            page: *mut u8,
+            page_len: usize,
+            answer: *mut u64,
+        );
         pub fn colwythar_open(settings: *const u32, due: *mut u64, answer: *mut u64);
         pub fn colwythar_unit_count(settings: *const u32, answer: *mut u64);
         pub fn colwythar_unit(
@@ -50,43 +59,51 @@ mod c {
     }
 }
 
-/// `colwythar_read_unit`.
-#[inline]
-pub fn read_unit(settings: &[u32; 8], address: u64, flags: &[u8], rows: &mut [u8]) -> [u64; 2] {
+/// A function that takes flags or rows of a unit, and a lent buffer.
+type OnUnit = unsafe extern "C" fn(*const u32, u64, *const u8, usize, *mut u8, usize, *mut u64);
+
+/// Calls such a function of the engine.
+#[inline(always)]
+fn on_unit(
+    function: OnUnit,
+    settings: &[u32; 8],
+    address: u64,
+    given: &[u8],
+    lent: &mut [u8],
+) -> [u64; 2] {
     let mut answer = [0; 2];
     // SAFETY: each pointer comes with its own length or fixed size, and the borrows keep the lent
     // memory apart and alive during the call.
     unsafe {
-        c::colwythar_read_unit(
+        function(
             settings.as_ptr(),
             address,
-            flags.as_ptr(),
-            flags.len(),
-            rows.as_mut_ptr(),
-            rows.len(),
+            given.as_ptr(),
+            given.len(),
+            lent.as_mut_ptr(),
+            lent.len(),
             answer.as_mut_ptr(),
         );
     }
     answer
 }
 
+/// `colwythar_read_unit`.
+#[inline]
+pub fn read_unit(settings: &[u32; 8], address: u64, flags: &[u8], rows: &mut [u8]) -> [u64; 2] {
+    on_unit(c::colwythar_read_unit, settings, address, flags, rows)
+}
+
 /// `colwythar_write_flags`.
 #[inline]
 pub fn write_flags(settings: &[u32; 8], address: u64, rows: &[u8], flags: &mut [u8]) -> [u64; 2] {
-    let mut answer = [0; 2];
-    // SAFETY: as in `read_unit`.
-    unsafe {
-        c::colwythar_write_flags(
-            settings.as_ptr(),
-            address,
-            rows.as_ptr(),
-            rows.len(),
-            flags.as_mut_ptr(),
-            flags.len(),
-            answer.as_mut_ptr(),
-        );
-    }
-    answer
+    on_unit(c::colwythar_write_flags, settings, address, rows, flags)
+}
+
+/// `colwythar_page`.
+#[inline]
+pub fn page(settings: &[u32; 8], address: u64, rows: &[u8], page: &mut [u8]) -> [u64; 2] {
+    on_unit(c::colwythar_page, settings, address, rows, page)
 }
 
 /// `colwythar_open`. `due` is set where the opening is accepted, and left as it was where not.
@@ -117,7 +134,7 @@ pub fn unit(
     rows: &mut [u8],
 ) -> [u64; 2] {
     let mut answer = [0; 2];
-    // SAFETY: as in `read_unit`; `due` is borrowed alone.
+    // SAFETY: as in `on_unit`; `due` is borrowed alone.
     unsafe {
         c::colwythar_unit(
             settings.as_ptr(),

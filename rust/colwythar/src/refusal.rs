@@ -16,7 +16,7 @@ use std::fmt;
 /// ```
 #[derive(Clone, Copy, Debug, PartialEq, Eq, Hash)]
 pub struct Refusal {
-    /// 1 to 17 or 20 to 22.
+    /// 1 to 17 or 20 to 23.
     pub number: u64,
     /// Where or how much, according to the number.
     pub place: u64,
@@ -69,6 +69,7 @@ impl fmt::Display for Refusal {
             15 => write!(f, "the table ends within a row, after {place} whole ones"),
             17 => write!(f, "the flag buffer is too short, {place} flags are needed"),
             21 => write!(f, "another unit is due, unit {place}"),
+            23 => write!(f, "the page is too short, {place} bytes are needed"),
             _ => f.write_str(self.sentence()),
         }
     }

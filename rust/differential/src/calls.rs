@@ -4,17 +4,17 @@ use colwythar::{max_flags_of_rows, MAX_FLAGS};
 use h266::{Params, Settings};
 use samples::{damage, settings, trees, Rng, Style};
 
-use crate::Engine;
+use crate::{pages, Engine};
 
 /// As much as the rows or flags of any unit need.
 pub(crate) const ROOM: usize = 8_192;
 
 /// A random unit of a picture, its flags, and what both directions take of room.
-struct Unit {
-    settings: Settings,
-    address: u64,
-    flags: Vec<u8>,
-    rows: Vec<u8>,
+pub(crate) struct Unit {
+    pub(crate) settings: Settings,
+    pub(crate) address: u64,
+    pub(crate) flags: Vec<u8>,
+    pub(crate) rows: Vec<u8>,
 }
 
 /// One round: a legal unit in both directions, then the same unit damaged in several ways.
@@ -32,10 +32,11 @@ pub fn round(engine: &mut Engine, rng: &mut Rng) {
     other_limits(engine, rng, &unit);
     no_such_unit(engine, rng, &unit);
     broken_settings(engine, rng, &unit);
+    pages::far(engine, rng);
 }
 
 /// A random tree of a unit, read and turned back on all sides.
-fn legal(
+pub(crate) fn legal(
     engine: &mut Engine,
     rng: &mut Rng,
     settings: Settings,
@@ -65,12 +66,12 @@ pub fn edges(engine: &mut Engine, rng: &mut Rng, ctu: u32, width: u32, height: u
     }
 }
 
-fn unit_count(settings: &Settings) -> u64 {
+pub(crate) fn unit_count(settings: &Settings) -> u64 {
     Params::new(settings).expect("valid settings").unit_count()
 }
 
 /// A length around the one needed.
-fn room(rng: &mut Rng, needed: usize) -> usize {
+pub(crate) fn room(rng: &mut Rng, needed: usize) -> usize {
     match rng.below(6) {
         0 => 0,
         1 => needed.saturating_sub(1),
@@ -88,6 +89,7 @@ fn rooms(engine: &mut Engine, rng: &mut Rng, unit: &Unit) {
     engine.read(rng, settings, *address, flags, short);
     let short = room(rng, flags.len());
     engine.write(rng, settings, *address, rows, short);
+    pages::lengths(engine, rng, unit);
     let planned = max_flags_of_rows(rows.len() / 8);
     let back = engine.write(rng, settings, *address, rows, planned);
     assert_eq!(back.number, 0, "a planned buffer is refused: {settings:?} {address} {rows:?}");
@@ -127,7 +129,7 @@ fn damaged_rows(engine: &mut Engine, rng: &mut Rng, unit: &Unit) {
     for _ in 0..5 {
         damage::rows(rng, &mut rows);
         let room = if rng.percent(70) { ROOM } else { room(rng, unit.flags.len()) };
-        engine.write(rng, &unit.settings, unit.address, &rows, room);
+        pages::beside(engine, rng, &unit.settings, unit.address, &rows, room);
         if rng.percent(60) {
             rows.clone_from(&unit.rows);
         }
@@ -138,7 +140,7 @@ fn damaged_rows(engine: &mut Engine, rng: &mut Rng, unit: &Unit) {
 fn lawless_rows(engine: &mut Engine, rng: &mut Rng, unit: &Unit) {
     for _ in 0..3 {
         let rows = trees::lawless_rows(&unit.settings, unit.address, rng);
-        engine.write(rng, &unit.settings, unit.address, &rows, ROOM);
+        pages::beside(engine, rng, &unit.settings, unit.address, &rows, ROOM);
     }
 }
 
@@ -146,7 +148,7 @@ fn lawless_rows(engine: &mut Engine, rng: &mut Rng, unit: &Unit) {
 fn other_limits(engine: &mut Engine, rng: &mut Rng, unit: &Unit) {
     let settings = settings::neighbour(rng, &unit.settings);
     engine.read(rng, &settings, unit.address, &unit.flags, ROOM);
-    engine.write(rng, &settings, unit.address, &unit.rows, ROOM);
+    pages::beside(engine, rng, &settings, unit.address, &unit.rows, ROOM);
 }
 
 /// Addresses from the unit count on, and other units' addresses for this unit's data.
@@ -156,7 +158,7 @@ fn no_such_unit(engine: &mut Engine, rng: &mut Rng, unit: &Unit) {
     let other = rng.draw() % count;
     for address in [beyond, other] {
         engine.read(rng, &unit.settings, address, &unit.flags, ROOM);
-        engine.write(rng, &unit.settings, address, &unit.rows, ROOM);
+        pages::beside(engine, rng, &unit.settings, address, &unit.rows, ROOM);
     }
 }
 
@@ -174,5 +176,5 @@ fn broken_settings(engine: &mut Engine, rng: &mut Rng, unit: &Unit) {
     let lent = room(rng, rows.len());
     engine.read(rng, &settings, address, &flags, lent);
     let lent = room(rng, flags.len());
-    engine.write(rng, &settings, address, &rows, lent);
+    pages::beside(engine, rng, &settings, address, &rows, lent);
 }

@@ -1,28 +1,17 @@
-//! One call on all three sides.
+//! One call on all sides.
 
-use colwythar::{max_flags_of_rows, raw};
-use h266::{rows, Answer, Board, Settings};
+use colwythar::{max_flags_of_rows, raw, LINE_BYTES};
+use h266::{rows, Board, Settings};
 use samples::Rng;
 
-use crate::lent::Lent;
-use crate::{Entry, Tally};
+use crate::call::Call;
+use crate::{Entry, Outcome, Tally};
 
-/// The engine, watched by `h266` and `tuned`. Every method panics where one of the three differs.
+/// The engine, watched by `h266` and `tuned`. Every method panics where one of them differs.
 #[derive(Debug, Default)]
 pub struct Engine {
     /// The answers so far.
     pub tally: Tally,
-}
-
-/// What the engine answered, and the lent buffer afterwards, as far as it was written.
-#[derive(Clone, Debug, PartialEq, Eq)]
-pub struct Outcome {
-    /// 0, or the number of the refusal.
-    pub number: u64,
-    /// The count, or the place of the refusal.
-    pub value: u64,
-    /// The bytes written.
-    pub written: Vec<u8>,
 }
 
 impl Engine {
@@ -36,11 +25,11 @@ impl Engine {
         room: usize,
     ) -> Outcome {
         let engine = |lent: &mut [u8]| raw::read_unit(s, at, flags, lent);
-        let h266 = |lent: &mut [u8]| h266::read_unit(s, at, flags, lent);
-        let tuned = |lent: &mut [u8]| tuned::read_unit(s, at, flags, lent);
+        let mut h266 = |lent: &mut [u8]| h266::read_unit(s, at, flags, lent);
+        let mut tuned = |lent: &mut [u8]| tuned::read_unit(s, at, flags, lent);
         let input = || format!("read {s:?}, unit {at}, flags {flags:?}, room {room}");
         let call = Call { entry: Entry::Read, size: 8, room };
-        let outcome = call.make(&mut self.tally, rng, (engine, h266, tuned), input);
+        let outcome = call.make(&mut self.tally, rng, engine, [&mut h266, &mut tuned], input);
         assert_read(s, flags, &outcome);
         outcome
     }
@@ -55,13 +44,35 @@ impl Engine {
         room: usize,
     ) -> Outcome {
         let engine = |lent: &mut [u8]| raw::write_flags(s, at, rows, lent);
-        let h266 = |lent: &mut [u8]| h266::write_flags(s, at, rows, lent);
-        let tuned = |lent: &mut [u8]| tuned::write_flags(s, at, rows, lent);
+        let mut h266 = |lent: &mut [u8]| h266::write_flags(s, at, rows, lent);
+        let mut tuned = |lent: &mut [u8]| tuned::write_flags(s, at, rows, lent);
         let input = || format!("write {s:?}, unit {at}, rows {rows:?}, room {room}");
         let call = Call { entry: Entry::Write, size: 1, room };
-        let outcome = call.make(&mut self.tally, rng, (engine, h266, tuned), input);
+        let outcome = call.make(&mut self.tally, rng, engine, [&mut h266, &mut tuned], input);
         if outcome.number == 0 || outcome.number == 17 {
             assert_planned(s, rows.len() / 8, outcome.value as usize);
+        }
+        outcome
+    }
+
+    /// Rows to a page of `room` bytes. `tuned` has no pages.
+    pub fn page(
+        &mut self,
+        rng: &mut Rng,
+        s: &Settings,
+        at: u64,
+        rows: &[u8],
+        room: usize,
+    ) -> Outcome {
+        let engine = |lent: &mut [u8]| raw::page(s, at, rows, lent);
+        let mut h266 = |lent: &mut [u8]| h266::page(s, at, rows, lent);
+        let input = || format!("page {s:?}, unit {at}, rows {rows:?}, room {room}");
+        let call = Call { entry: Entry::Page, size: 1, room };
+        let outcome = call.make(&mut self.tally, rng, engine, [&mut h266], input);
+        if outcome.number == 0 || outcome.number == 23 {
+            let bytes = outcome.value as usize;
+            assert_eq!(bytes, LINE_BYTES * (rows.len() / 8), "{}", input());
+            assert_eq!(outcome.number == 0, bytes <= room, "{}", input());
         }
         outcome
     }
@@ -88,11 +99,11 @@ impl Engine {
         let UnitCall { address, flags, room } = call;
         let [mut first, mut second, mut third] = [*due; 3];
         let engine = |lent: &mut [u8]| raw::unit(s, &mut first, *address, flags, lent);
-        let h266 = |lent: &mut [u8]| h266::unit(s, &mut second, *address, flags, lent);
-        let tuned = |lent: &mut [u8]| tuned::unit(s, &mut third, *address, flags, lent);
+        let mut h266 = |lent: &mut [u8]| h266::unit(s, &mut second, *address, flags, lent);
+        let mut tuned = |lent: &mut [u8]| tuned::unit(s, &mut third, *address, flags, lent);
         let input = || format!("unit {s:?}, due {due}, {call:?}");
         let call = Call { entry: Entry::Unit, size: 8, room: *room };
-        let outcome = call.make(&mut self.tally, rng, (engine, h266, tuned), input);
+        let outcome = call.make(&mut self.tally, rng, engine, [&mut h266, &mut tuned], input);
         assert_eq!([second, third], [first; 2], "the address due after {}", input());
         assert_eq!(first, *due + u64::from(outcome.number == 0), "after {}", input());
         *due = first;
@@ -147,39 +158,4 @@ pub struct UnitCall {
     pub flags: Vec<u8>,
     /// The length of the row buffer.
     pub room: usize,
-}
-
-/// A call with a lent buffer, made on all sides.
-struct Call {
-    entry: Entry,
-    /// Bytes of one answered item.
-    size: usize,
-    room: usize,
-}
-
-impl Call {
-    /// Makes the call on the engine, on `h266` and on `tuned`.
-    fn make(
-        &self,
-        tally: &mut Tally,
-        rng: &mut Rng,
-        (engine, h266, tuned): (
-            impl FnOnce(&mut [u8]) -> [u64; 2],
-            impl FnOnce(&mut [u8]) -> Answer,
-            impl FnOnce(&mut [u8]) -> Answer,
-        ),
-        input: impl Fn() -> String,
-    ) -> Outcome {
-        let before = Lent::new(rng, self.room);
-        let [mut first, mut second, mut third] = std::array::from_fn(|_| before.clone());
-        let [number, value] = engine(first.part());
-        let others = [h266(second.part()), tuned(third.part())];
-        assert_eq!(others, [(number, value); 2], "answers differ for {}", input());
-        assert!(first == second && first == third, "buffers differ for {}", input());
-        let written = if number == 0 { self.size * value as usize } else { 0 };
-        first.assert_rest(&before, written);
-        tally.count(self.entry, number);
-        let written = first.part()[..written].to_vec();
-        Outcome { number, value, written }
-    }
 }

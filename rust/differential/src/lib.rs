@@ -7,7 +7,7 @@
 //! unit after the other, and that there are no more flags than is planned. The calls come from
 //! random legal trees, damaged flags and tables, every width and height at the edges, broken
 //! settings, lent buffers of every kind of length, whole sessions, small units in full, and the
-//! units with the most flags.
+//! units with the most flags. Every table is also printed as a page, which `tuned` does not have.
 //!
 //! `h266` shares nothing with the engine. `tuned` takes from `h266` the check of the settings and the
 //! rules of open splits, and so does the generator of trees; trees are also drawn from random flags,
@@ -24,12 +24,15 @@
 #![forbid(unsafe_code)]
 #![warn(missing_docs)]
 
+mod call;
 pub mod calls;
 mod engine;
 mod lent;
+pub mod pages;
 pub mod sessions;
 pub mod small;
 mod tally;
 
-pub use engine::{Engine, Outcome, UnitCall};
+pub use call::Outcome;
+pub use engine::{Engine, UnitCall};
 pub use tally::{Entry, Tally};

@@ -7,7 +7,7 @@ use h266::{Params, Settings};
 use samples::{damage, Rng};
 
 use crate::calls::ROOM;
-use crate::Engine;
+use crate::{pages, Engine};
 
 /// Checks a unit in full and answers how many trees it has, or nothing where there are more than
 /// `limit`.
@@ -36,11 +36,11 @@ fn way_back(engine: &mut Engine, rng: &mut Rng, settings: &Settings, address: u6
     // In order, so that each run damages the same tables.
     let tables: BTreeSet<_> = trees.iter().collect();
     for (rows, flags) in tables {
-        let back = engine.write(rng, settings, address, rows, ROOM);
+        let back = pages::beside(engine, rng, settings, address, rows, ROOM);
         assert_eq!((back.number, &back.written), (0, flags), "{settings:?}, {rows:?}");
         let mut other = rows.clone();
         damage::rows(rng, &mut other);
-        let back = engine.write(rng, settings, address, &other, ROOM);
+        let back = pages::beside(engine, rng, settings, address, &other, ROOM);
         match trees.get(&other) {
             Some(flags) => assert_eq!((back.number, &back.written), (0, flags), "{other:?}"),
             None if other.len() % 8 != 0 => assert_eq!(back.number, 15, "{other:?}"),

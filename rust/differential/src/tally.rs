@@ -3,15 +3,17 @@
 use std::fmt;
 
 /// One above the greatest number of a refusal.
-const NUMBERS: usize = 23;
+const NUMBERS: usize = 24;
 
-/// The five functions of the engine.
+/// The functions of the engine.
 #[derive(Clone, Copy, Debug, PartialEq, Eq)]
 pub enum Entry {
     /// Flags to rows.
     Read,
     /// Rows to flags.
     Write,
+    /// Rows to a page.
+    Page,
     /// Opening a session.
     Open,
     /// Counting the units of a picture.
@@ -21,14 +23,16 @@ pub enum Entry {
 }
 
 impl Entry {
-    /// All five.
-    pub const ALL: [Self; 5] = [Self::Read, Self::Write, Self::Open, Self::Count, Self::Unit];
+    /// All of them.
+    pub const ALL: [Self; 6] =
+        [Self::Read, Self::Write, Self::Page, Self::Open, Self::Count, Self::Unit];
 
     /// The refusals that this function can give.
     pub fn numbers(self) -> Vec<usize> {
         match self {
             Self::Read => (1..=14).collect(),
             Self::Write => (1..=10).chain(15..=17).collect(),
+            Self::Page => (1..=10).chain([15, 16, 23]).collect(),
             Self::Open | Self::Count => (1..=9).collect(),
             Self::Unit => (11..=14).chain(20..=22).collect(),
         }

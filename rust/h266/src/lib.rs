@@ -5,9 +5,10 @@
 //! Each node is a [`Node`], its splits are [`Allowed::of`] it, and one recursion in each direction
 //! walks the tree, so that it can be held beside the clauses. It is the other side of the
 //! differential tests and, as safe Rust without special tricks, the yardstick of the benchmark.
-//! [`Board`], which takes tables as the customer's board does, is written from document 02.
+//! [`Board`], which takes tables as the customer's board does, is written from document 02, and
+//! [`page()`] from the paragraph that asks for the partition page.
 //!
-//! The four calls make the same promises as the engine's C interface. An answer is a pair: 0 and a
+//! The calls make the same promises as the engine's C interface. An answer is a pair: 0 and a
 //! count where the call is accepted, else the number of the refusal and its place. A refused call
 //! leaves every buffer as it was, and bytes past the answer are never touched.
 //!
@@ -31,6 +32,7 @@ pub mod brute;
 pub mod check;
 mod join;
 mod node;
+mod page;
 mod params;
 mod pipeline;
 mod read;
@@ -44,6 +46,7 @@ mod write;
 pub use allowed::Allowed;
 pub use board::{Board, BoardFault, PipelineUnit};
 pub use node::Node;
+pub use page::page;
 pub use params::Params;
 pub use pipeline::pipeline_side;
 pub use read::read_unit;

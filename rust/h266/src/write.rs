@@ -10,7 +10,7 @@ use crate::join::Splits;
 use crate::{Allowed, Answer, Node, Params, Refusal, Row, Settings, Split, MAX_ROWS};
 
 /// More than the flags of any unit: a split has four at most, a row one, an edge node one.
-const MAX_FLAGS: usize = 8 * MAX_ROWS;
+pub(crate) const MAX_FLAGS: usize = 8 * MAX_ROWS;
 
 thread_local! {
     /// Flags and splits wait here until the whole table is accepted. Kept, so that no call has to

@@ -2,8 +2,8 @@
 //!
 //! Settings, legal trees of several styles, and damage to flags and tables come from a small
 //! generator with a fixed seed, so that every run sees the same inputs; the examples are those of
-//! document 01, and the units with the most flags. Trees are walked with the allowed splits of the
-//! crate `h266`; the engine is not needed here.
+//! document 01, the units with the most flags, and one with the deepest rows. Trees are walked with
+//! the allowed splits of the crate `h266`; the engine is not needed here.
 //!
 //! ```
 //! use samples::{trees, Rng, Style};
@@ -17,6 +17,7 @@
 #![warn(missing_docs)]
 
 pub mod damage;
+pub mod deepest;
 pub mod longest;
 pub mod paper;
 mod rng;

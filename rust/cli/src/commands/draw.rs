@@ -4,7 +4,7 @@ use std::io::{self, Write};
 
 use colwythar::Settings;
 
-use super::{Command, Context, Entry, Sum, Unit};
+use super::{Command, Context, Entry, Unit};
 use crate::{output, svg, Complaint};
 
 pub const ENTRY: Entry = Entry {
@@ -42,12 +42,7 @@ impl Command for Draw {
     }
 
     fn complaint(&mut self, complaint: &Complaint, context: &mut Context<'_>) -> io::Result<()> {
-        output::say(context.err, &format!("{}: {complaint}", context.name));
-        Ok(())
-    }
-
-    fn end_of_file(&mut self, _: &Sum, _: &mut Context<'_>) -> io::Result<()> {
-        Ok(())
+        output::say_complaint(complaint, context)
     }
 
     fn finish(&mut self, out: &mut dyn Write) -> io::Result<()> {

@@ -4,7 +4,7 @@ use std::io;
 
 use colwythar::Settings;
 
-use super::{Command, Context, Entry, Sum, Unit};
+use super::{Command, Context, Entry, Unit};
 use crate::{printing, Complaint};
 
 pub const ENTRY: Entry = Entry {
@@ -31,9 +31,5 @@ impl Command for Flags {
 
     fn complaint(&mut self, complaint: &Complaint, context: &mut Context<'_>) -> io::Result<()> {
         writeln!(context.out, "# {complaint}")
-    }
-
-    fn end_of_file(&mut self, _: &Sum, _: &mut Context<'_>) -> io::Result<()> {
-        Ok(())
     }
 }

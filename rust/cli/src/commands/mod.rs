@@ -2,6 +2,7 @@
 
 mod draw;
 mod flags;
+mod page;
 mod table;
 
 use std::io::{self, Write};
@@ -11,7 +12,7 @@ use colwythar::{Row, Settings};
 use crate::Complaint;
 
 /// All subcommands, in the order of the help text.
-pub const COMMANDS: [Entry; 3] = [table::ENTRY, flags::ENTRY, draw::ENTRY];
+pub const COMMANDS: [Entry; 4] = [table::ENTRY, flags::ENTRY, page::ENTRY, draw::ENTRY];
 
 /// What the help text says of a subcommand, and how it begins.
 pub struct Entry {
@@ -49,7 +50,9 @@ pub trait Command {
     fn complaint(&mut self, complaint: &Complaint, context: &mut Context<'_>) -> io::Result<()>;
 
     /// The end of a file that was read to its end.
-    fn end_of_file(&mut self, sum: &Sum, context: &mut Context<'_>) -> io::Result<()>;
+    fn end_of_file(&mut self, _sum: &Sum, _context: &mut Context<'_>) -> io::Result<()> {
+        Ok(())
+    }
 
     /// The end of the last file.
     fn finish(&mut self, _out: &mut dyn Write) -> io::Result<()> {

@@ -4,6 +4,7 @@ use crate::program::{run, run_with, Ran, P1, P1_TABLE};
 
 const USAGE: &str = "usage: colwythar table FILE...
        colwythar flags FILE...
+       colwythar page FILE...
        colwythar draw FILE... [-o OUT.svg]
 see colwythar --help
 ";
@@ -11,7 +12,7 @@ see colwythar --help
 #[test]
 fn without_a_command_or_a_file() {
     assert_eq!(run::<&str>(&[]), Ran::failed(2, USAGE));
-    for command in ["table", "flags"] {
+    for command in ["table", "flags", "page"] {
         let usage = format!("usage: colwythar {command} FILE...\nsee colwythar --help\n");
         assert_eq!(run(&[command]), Ran::failed(2, &usage));
         assert_eq!(run(&[command, "--"]), Ran::failed(2, &usage));

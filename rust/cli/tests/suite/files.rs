@@ -8,7 +8,7 @@ use crate::program::{data, fresh_path, run, run_with, sample, Ran, P1, P1_TABLE}
 fn no_file_and_a_folder() {
     let folder = data("");
     let folder = folder.to_str().expect("a name");
-    for command in ["table", "flags", "draw"] {
+    for command in ["table", "flags", "page", "draw"] {
         let missing = "colwythar: missing.txt: there is no such file\n";
         assert_eq!(run(&[command, "missing.txt"]), Ran::failed(2, missing));
         let why = format!("colwythar: {folder}: it is a directory\n");

@@ -6,6 +6,7 @@ mod files;
 mod limits;
 mod lines;
 mod output;
+mod pages;
 mod program;
 mod round_trips;
 mod stored;

@@ -11,7 +11,7 @@ const FULL: &str = "No space left on device";
 
 #[test]
 fn a_pipe_that_is_closed_early() {
-    for name in ["table", "flags", "draw"] {
+    for name in ["table", "flags", "page", "draw"] {
         let mut command = command();
         command.arg(name).args(vec![sample("camera.txt"); 100]);
         let mut child =
@@ -30,7 +30,9 @@ fn a_device_that_is_full() {
     if !Path::new("/dev/full").exists() {
         return;
     }
-    for arguments in [&["table", "-"][..], &["flags", "-"], &["draw", "-"], &["--help"]] {
+    for arguments in
+        [&["table", "-"][..], &["flags", "-"], &["page", "-"], &["draw", "-"], &["--help"]]
+    {
         let full = File::options().write(true).open("/dev/full").expect("the device");
         let path = fresh_path(&format!("full-{}.txt", arguments[0]));
         fs::write(&path, P1).expect("a file");

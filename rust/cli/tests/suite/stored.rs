@@ -7,7 +7,7 @@ use std::path::{Path, PathBuf};
 use crate::program::{data, run, sample, Ran};
 
 /// A file's expected output stands beside it, under the name of the command.
-const COMMANDS: [&str; 2] = ["table", "flags"];
+const COMMANDS: [&str; 3] = ["table", "flags", "page"];
 
 #[test]
 fn data_prints_what_is_stored() {
@@ -16,7 +16,7 @@ fn data_prints_what_is_stored() {
 
 #[test]
 fn samples_print_what_is_stored() {
-    assert_eq!(check_folder(&sample("")), (18, 18));
+    assert_eq!(check_folder(&sample("")), (18, 20));
 }
 
 /// Checks each text file of a folder. Answers how many there are, and how many runs were compared.

@@ -5,10 +5,10 @@ use colwythar::{read_unit, rows, write_flags, Refusal, Row, Session, Settings};
 use crate::A;
 
 /// X, Y, exponents of width and height, QT depth, MTT depth.
-type Fields = (u16, u16, u8, u8, u8, u8);
+pub type Fields = (u16, u16, u8, u8, u8, u8);
 
 const P2_FLAGS: [u8; 5] = [1, 0, 0, 0, 0];
-const P2: [Fields; 4] =
+pub const P2: [Fields; 4] =
     [(0, 0, 5, 5, 1, 0), (32, 0, 5, 5, 1, 0), (0, 32, 5, 5, 1, 0), (32, 32, 5, 5, 1, 0)];
 
 fn row(fields: &Fields) -> Row {
@@ -16,7 +16,7 @@ fn row(fields: &Fields) -> Row {
     Row { x, y, width_exponent, height_exponent, qt_depth, mtt_depth }
 }
 
-fn table(fields: &[Fields]) -> Vec<u8> {
+pub fn table(fields: &[Fields]) -> Vec<u8> {
     fields.iter().flat_map(|fields| row(fields).to_bytes()).collect()
 }
 

@@ -1,5 +1,7 @@
 //! The engine against `h266` and `tuned`: at least 200,000 calls on each, with fixed seeds.
 
+mod pages;
+
 use colwythar::max_flags_of_rows;
 use differential::{calls, sessions, small, Engine, Entry};
 use h266::Params;
@@ -16,12 +18,14 @@ fn single_units() {
     let tally = &engine.tally;
     println!("{tally}");
     assert!(tally.calls() >= 150_000, "{tally}");
-    for entry in [Entry::Read, Entry::Write, Entry::Open, Entry::Count] {
+    for entry in [Entry::Read, Entry::Write, Entry::Page, Entry::Open, Entry::Count] {
         tally.assert_each(entry, 300);
     }
     assert!(tally.of(Entry::Read, 0) >= 20_000, "{tally}");
     assert!(tally.of(Entry::Write, 0) >= 15_000, "{tally}");
     assert!(tally.of(Entry::Write, 16) >= 15_000, "{tally}");
+    assert!(tally.of(Entry::Page, 0) >= 20_000, "{tally}");
+    assert!(tally.of(Entry::Page, 16) >= 15_000, "{tally}");
 }
 
 /// Every width and height of the units at the right and bottom edge, for every CTU side.
@@ -37,6 +41,9 @@ fn edges() {
     }
     println!("{}", engine.tally);
     assert!(engine.tally.calls() >= 100_000, "{}", engine.tally);
+    for number in [0, 15, 16, 23] {
+        assert!(engine.tally.of(Entry::Page, number) >= 15_000, "{}", engine.tally);
+    }
 }
 
 /// Whole pictures, refused calls in between, calls after the end, forged sessions.

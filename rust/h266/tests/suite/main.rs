@@ -2,6 +2,7 @@
 
 mod board;
 mod exhaustive;
+mod page;
 mod paper;
 mod pipeline;
 mod random;

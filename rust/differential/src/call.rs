@@ -1,0 +1,56 @@
+//! A call with a lent buffer, made on all sides.
+
+use h266::Answer;
+use samples::Rng;
+
+use crate::lent::Lent;
+use crate::{Entry, Tally};
+
+/// What the engine answered, and the lent buffer afterwards, as far as it was written.
+#[derive(Clone, Debug, PartialEq, Eq)]
+pub struct Outcome {
+    /// 0, or the number of the refusal.
+    pub number: u64,
+    /// The count, or the place of the refusal.
+    pub value: u64,
+    /// The bytes written.
+    pub written: Vec<u8>,
+}
+
+/// The same call on another side.
+pub(crate) type Other<'a> = &'a mut dyn FnMut(&mut [u8]) -> Answer;
+
+/// A call with a lent buffer, made on all sides.
+pub(crate) struct Call {
+    pub(crate) entry: Entry,
+    /// Bytes of one answered item.
+    pub(crate) size: usize,
+    pub(crate) room: usize,
+}
+
+impl Call {
+    /// Makes the call on the engine and on the other sides.
+    pub(crate) fn make<const N: usize>(
+        &self,
+        tally: &mut Tally,
+        rng: &mut Rng,
+        engine: impl FnOnce(&mut [u8]) -> [u64; 2],
+        others: [Other<'_>; N],
+        input: impl Fn() -> String,
+    ) -> Outcome {
+        let before = Lent::new(rng, self.room);
+        let mut first = before.clone();
+        let [number, value] = engine(first.part());
+        for other in others {
+            let mut lent = before.clone();
+            let answer = other(lent.part());
+            assert_eq!(answer, (number, value), "answers differ for {}", input());
+            assert!(first == lent, "buffers differ for {}", input());
+        }
+        let written = if number == 0 { self.size * value as usize } else { 0 };
+        first.assert_rest(&before, written);
+        tally.count(self.entry, number);
+        let written = first.part()[..written].to_vec();
+        Outcome { number, value, written }
+    }
+}
