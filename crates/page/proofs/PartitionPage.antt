@@ -1,5 +1,5 @@
 -- R-1 for every unit: `PartitionPage`.
-use Prim.Native.Nat.{ℕ, _*_}
+use Prim.Native.Nat.{ℕ, _*_, _≤_}
 use mathlib.Core.Path.{_≡_, refl, sym, ap, _∙_}
 use mathlib.Core.List.{List, [], _∷_}
 use mathlib.Core.Logic.{_↔_, inl, inr}
@@ -24,6 +24,7 @@ use Rattle.unit.proofs.Decided.{not-listed, tested-decides}
 use Rattle.unit.proofs.Parsed.{rowsIn}
 use Rattle.unit.proofs.RootTree.{root-said}
 use Rattle.unit.proofs.Roots.{root-of}
+use Rattle.unit.proofs.Sizes.{rows-most}
 use Rattle.unit.proofs.Tested.{Passed, Tested, faulty, passed, tested, tree-tested}
 use Rattle.unit.proofs.TurnsExactly.{write-stopped, write-given}
 use Rattle.page.specs.Lines.{digitsIn, digits, column, rowColumns, line, lines}
@@ -35,15 +36,20 @@ use Rattle.page.proofs.Passing.{tree-fits, tree-wide, page-stopped, pag
 -- ---- of the trees of a unit that is there
 
 module _ (s : Settings) (a : ℕ) (h : unitRefusal s a ≡ 0) where
-  prints : (t : UnitTree s a) (page : List ℕ) → writePage s a (tableBytes (rowsOf t)) page ≡ deliver 23 (33 * length (rowsOf t)) (lines a (rowsOf t)) page
-  prints t page =
-      page-given s a (tableBytes (rowsOf t)) page (ap (λ r. r .end) (tree-tested s a h t))
-      ∙ rw (root-said (root-of s a h) t, lines-long a (tree-wide s a h t))
+  -- the lines of a tree's table are those of its rows
+  of-tree : (t : UnitTree s a) (page : List ℕ) {count : ℕ} → length (lines a (rowsOf t)) ≡ count
+      → writePage s a (tableBytes (rowsOf t)) page ≡ deliver 23 count (lines a (rowsOf t)) page
+  of-tree t page e =
+      page-given s a (tableBytes (rowsOf t)) page (ap (λ r. r .end) (tree-tested s a h t)) ∙ rw (root-said (root-of s a h) t, e)
+
+  long : (t : UnitTree s a) → length (lines a (rowsOf t)) ≡ 33 * length (rowsOf t)
+  long t = lines-long a (tree-wide s a h t)
 
   printed : Printed s a
   printed = record {
-    prints = prints;
+    prints = λ t page. of-tree t page (let l = long t in omega arith);
     wide = tree-wide s a h;
+    most = λ t. let l = long t in let m = rows-most s a h t in omega arith;
     fits = tree-fits s a h;
   }
 

@@ -1,5 +1,5 @@
 -- R-1, one claim: "a unit's rows on paper, one row a line". Lines and columns are those of Lines.antt.
-use Prim.Native.Nat.{ℕ, _*_}
+use Prim.Native.Nat.{ℕ, _*_, _≤_}
 use mathlib.Core.Path.{_≡_}
 use mathlib.Core.List.{List, [], _∷_, _++_}
 use mathlib.Core.Logic.{_↔_}
@@ -32,6 +32,8 @@ pub record Printed (s : Settings) (a : ℕ) : Type 0 where
       → writePage s a (tableBytes (rowsOf t)) page ≡ deliver 23 (33 * length (rowsOf t)) (lines a (rowsOf t)) page
   -- a line has "33 bytes"
   pub wide : (t : UnitTree s a) → Every (λ r. length (line a r) ≡ 33) (rowsOf t)
+  -- no page of a unit is longer than that of 1,024 rows
+  pub most : (t : UnitTree s a) → length (lines a (rowsOf t)) ≤ 33792
   -- nothing is cut off, and columns never touch
   pub fits : (t : UnitTree s a) → Every (Fits a) (rowsOf t)
 

@@ -1,8 +1,8 @@
 use denote.Ref.{now}
 use borrow.Author.Needs.{needs}
 use Rattle.writer.proofs.Whole.{root-asked, root-kept}
-use Rattle.writer.proofs.test_all.Statement.{statement}
-use Rattle.writer.proofs.test_all.Tie as tie
+use Rattle.writer.proofs.test.test_all.Statement.{statement}
+use Rattle.writer.proofs.test.test_all.Tie as tie
 
 tables-requires : tie.Need-tables-requires
 tables-requires c κs = search needs

@@ -2,8 +2,8 @@ use denote.Ref.{now}
 use Rattle.unit.proofs.Located.{unit-rooted}
 use Rattle.writer.proofs.Units.{test-refused, test-found}
 use borrow.Author.Needs.{needs}
-use Rattle.writer.proofs.test_unit.Statement.{statement}
-use Rattle.writer.proofs.test_unit.Tie as tie
+use Rattle.writer.proofs.test.test_unit.Statement.{statement}
+use Rattle.writer.proofs.test.test_unit.Tie as tie
 
 unit-at-requires : tie.Need-unit-at-requires
 unit-at-requires c κs = search needs

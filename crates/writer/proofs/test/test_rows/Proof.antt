@@ -3,8 +3,8 @@ use denote.Ref.{now}
 use borrow.Author.Needs.{needs}
 use Rattle.writer.proofs.Alone.{leaf-counted}
 use Rattle.writer.proofs.Whole.{rows-cut}
-use Rattle.writer.proofs.test_rows.Statement.{statement}
-use Rattle.writer.proofs.test_rows.Tie as tie
+use Rattle.writer.proofs.test.test_rows.Statement.{statement}
+use Rattle.writer.proofs.test.test_rows.Tie as tie
 
 returns : tie.Need-returns
 returns c = let a = c .before .before .args in rows-cut (a .l) (a .root) (now (a .rows)) (c .if1 .taken)
