@@ -1,5 +1,5 @@
-// The way back of a single unit: rows become the flags that give them, or document 01's refusals 1 to 10 and 15 to 17. It is
-// a test, which callers have for itself, and the delivery of the flags.
+// The way back of a single unit: rows become the flags that give them, or document 01's refusals 1 to 10 and 15 to 17.
+// It is a test, which callers have for itself, and the delivery of the flags.
 mod deliver;
 mod test;
 
