@@ -1,35 +1,29 @@
 -- R-1 for every unit: `PartitionPage`.
-use Prim.Native.Nat.{ℕ, _*_, _≤_}
-use mathlib.Core.Path.{_≡_, refl, sym, ap, _∙_}
-use mathlib.Core.List.{List, [], _∷_}
-use mathlib.Core.Logic.{_↔_, inl, inr}
+use Prim.Native.Nat.{ℕ, _*_}
+use mathlib.Core.Path.{_≡_, refl, ap, _∙_}
+use mathlib.Core.List.{List}
+use mathlib.Core.Logic.{_↔_}
 use native.Mathlib.Omega.{arith}
 use lib.ListN.{length}
 use Rattle.settings.specs.declared.Settings.{Settings}
 use Rattle.settings.specs.Units.{unitRefusal}
 use Rattle.tree.specs.Rows.{tableBytes}
-use Rattle.tree.specs.Run.{stops}
 use Rattle.tree.specs.Tree.{rowsOf}
-use Rattle.laws.specs.Every.{Every}
-use Rattle.laws.proofs.Every.{every-map}
-use Rattle.laws.proofs.Tests.{never}
 use Rattle.unit.specs.declared.Answer.the-variants.{Refused}
-use Rattle.unit.specs.Answers.{refused, deliver, finishEnd}
-use Rattle.unit.specs.Cases.{row}
-use Rattle.unit.specs.Writer.{testUnit, writeFlags}
-use Rattle.unit.specs.Exactly.{UnitTree, OneOf, Bytes}
-use Rattle.unit.specs.Faults.{rowsNumbers, Decides}
+use Rattle.unit.specs.Answers.{deliver}
+use Rattle.unit.specs.Writer.{writeFlags}
+use Rattle.unit.specs.Exactly.{UnitTree, OneOf}
+use Rattle.unit.specs.Faults.{rowsNumbers}
 use Rattle.unit.proofs.Accepts.{undelivered}
 use Rattle.unit.proofs.Decided.{not-listed, tested-decides}
-use Rattle.unit.proofs.Parsed.{rowsIn}
 use Rattle.unit.proofs.RootTree.{root-said}
 use Rattle.unit.proofs.Roots.{root-of}
 use Rattle.unit.proofs.Sizes.{rows-most}
 use Rattle.unit.proofs.Tested.{Passed, Tested, faulty, passed, tested, tree-tested}
 use Rattle.unit.proofs.TurnsExactly.{write-stopped, write-given}
 use Rattle.page.specs.Lines.{digitsIn, digits, column, rowColumns, line, lines}
-use Rattle.page.specs.Page.{pageText, writePage}
-use Rattle.page.specs.PartitionPage.{PageFault, pageNumbers, Printed, PartitionPage}
+use Rattle.page.specs.Page.{writePage}
+use Rattle.page.specs.PartitionPage.{Printed, PartitionPage}
 use Rattle.page.proofs.Fitting.{lines-long}
 use Rattle.page.proofs.Passing.{tree-fits, tree-wide, page-stopped, page-given}
 

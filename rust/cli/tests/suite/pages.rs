@@ -30,6 +30,13 @@ fn flags_and_rows() {
     }
 }
 
+/// Lines of a page are rows as the program reads them.
+#[test]
+fn a_page_below_its_picture_line_is_read() {
+    let text = format!("picture 64 4 8 3 32 32 64 64\n{P2_PAGE}");
+    assert_eq!(page_of(&text), Ran::accepted(P2_PAGE));
+}
+
 #[test]
 fn several_units_one_after_the_other() {
     let two = format!("{P1_PAGE}     1    64     0  64  64  0  0\n");
