@@ -54,8 +54,8 @@ extern "C" {
  * when the first row of the next appears. */
 #define COLWYTHAR_PIPELINE_SIDE(ctu) ((ctu) < 64 ? (ctu) : 64)
 
-/* The bytes of a line of a page, and of the page of a unit with COLWYTHAR_MAX_ROWS rows: a page of that length is never
- * too short. */
+/* The bytes of a line of a page, and of the page of a unit with COLWYTHAR_MAX_ROWS rows. Proved: a page of that length is
+ * never too short. */
 #define COLWYTHAR_LINE_BYTES 33
 #define COLWYTHAR_MAX_PAGE_BYTES 33792
 

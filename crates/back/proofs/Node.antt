@@ -20,13 +20,13 @@ use Rattle.tree.specs.Back.{decisionFrom, sameRow, noFlags, backNode}
 use Rattle.laws.proofs.BackSteps.{back-none, back-closed, back-leaf, back-other, back-split}
 use Rattle.laws.proofs.Runs.{over-gone, over-one}
 use Rattle.laws.proofs.Steps.{isSplit}
+use Rattle.laws.proofs.Tables.{rows-long}
 use Rattle.nodes.proofs.Chains.{going-place, going-count}
 use Rattle.nodes.specs.State.{going, stopping, placeOf, countOf}
 use Rattle.nodes.specs.Walks.{walkOver, ending, Done}
 use Rattle.nodes.proofs.Stores.{sets-append}
 use Rattle.back.specs.Ahead.{rowsFrom, backWay}
 use Rattle.back.proofs.NextRows.{from-next}
-use Rattle.back.proofs.Way.{rows-long}
 
 -- the place of the rows from a row on is its number
 place-back : (bytes : List ℕ) (q : ℕ) → q * 8 ≤ length bytes → length bytes / 8 - length (rowsFrom bytes q) ≡ q

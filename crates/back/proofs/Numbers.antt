@@ -23,6 +23,7 @@ use Rattle.laws.proofs.BackBounds.{flags-four}
 use Rattle.laws.proofs.Edge.{Valid}
 use Rattle.laws.proofs.Multiples.{fold-least}
 use Rattle.laws.proofs.Steps.{isSplit}
+use Rattle.laws.proofs.Tables.{rows-long}
 use Rattle.nodes.specs.State.{going, stopping, placeOf, countOf}
 use Rattle.nodes.specs.Tables.{tableOf, limitsIn}
 use Rattle.nodes.specs.Words.{nodeIn, skips, reachesOut, openIn}
@@ -34,7 +35,6 @@ use Rattle.nodes.proofs.Seen.{seen}
 use Rattle.nodes.proofs.Stands.{child-stands}
 use Rattle.back.specs.Ahead.{rowsFrom, wordAt, Eight, backWay}
 use Rattle.back.proofs.RowWords.{same-word, other-word}
-use Rattle.back.proofs.Way.{rows-long}
 use Rattle.nodes.proofs.Lists.{alone}
 use Rattle.nodes.proofs.Chains.{going-place, going-count}
 use Rattle.back.proofs.Node.{done-gone, done-none, done-closed, done-other, done-leaf, done-kids}

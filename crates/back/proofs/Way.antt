@@ -17,6 +17,7 @@ use Rattle.laws.proofs.Areas.{areasOf, spareOf, least-area}
 use Rattle.laws.proofs.BackBounds.{Taken, BackBound, back-bound}
 use Rattle.laws.proofs.Edge.{Valid}
 use Rattle.laws.proofs.Runs.{over-gone, over-one}
+use Rattle.laws.proofs.Tables.{rows-long}
 use Rattle.nodes.specs.State.{placeOf, countOf}
 use Rattle.nodes.specs.Stands.{Word, Stands}
 use Rattle.nodes.specs.Walks.{Room, walkOver}
@@ -24,11 +25,6 @@ use Rattle.nodes.proofs.Lawful.{Step, Lawful}
 use Rattle.back.specs.Ahead.{rowsFrom, backWay}
 
 -- ---- rows that are left
-
-pub rows-long : (m : ℕ) (bytes : List ℕ) (i : ℕ) → length (rowsAt m bytes i) ≡ m
-unfolding rowsAt
-rows-long zero bytes i = refl
-rows-long (suc m) bytes i = ap suc (rows-long m bytes (i + 8))
 
 same-rows : (bytes : List ℕ) (m n i j : ℕ) → m ≡ n → i ≡ j → rowsAt m bytes i ≡ rowsAt n bytes j
 same-rows bytes m n i j e f = rw (e, f)

@@ -1,5 +1,5 @@
--- The bytes of small rows give the rows back.
-use Prim.Native.Nat.{ℕ, _+_, _*_, _%_, _≤_}
+-- Rows and their bytes: as many rows are read as are asked for, and the bytes of small rows give the rows back.
+use Prim.Native.Nat.{ℕ, zero, suc, _+_, _*_, _%_, _≤_}
 use mathlib.Core.Path.{_≡_, refl, sym, ap, ap₂, _∙_}
 use mathlib.Core.List.{List, _∷_, _++_, append-assoc}
 use lib.ListN.{length, getD, length-append}
@@ -8,6 +8,11 @@ use native.Mathlib.Omega.{arith}
 use Rattle.tree.specs.Rows.{Row, rowBytes, tableBytes, rowAt, rowsAt}
 use Rattle.laws.specs.Geometry.{SmallRow}
 use Rattle.laws.specs.Every.{Every, every-none, every-more}
+
+pub rows-long : (m : ℕ) (bytes : List ℕ) (i : ℕ) → length (rowsAt m bytes i) ≡ m
+unfolding rowsAt
+rows-long zero bytes i = refl
+rows-long (suc m) bytes i = ap suc (rows-long m bytes (i + 8))
 
 -- ---- one row, between other bytes
 

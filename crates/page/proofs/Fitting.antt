@@ -28,7 +28,7 @@ fits {address} {r} h s deep = record {
 
 -- ---- how long a line is
 
--- every column of a row is as long as it is wide
+-- every column of a small row is as long as it is wide
 pub record Held (r : Row) : Type 0 where
   pub xLong : length (column 6 (r .x)) ≡ 6
   pub yLong : length (column 6 (r .y)) ≡ 6
@@ -37,17 +37,6 @@ pub record Held (r : Row) : Type 0 where
   pub qtLong : length (column 3 (r .qt)) ≡ 3
   pub mttLong : length (column 3 (r .mtt)) ≡ 3
 
-fits-held : {address : ℕ} {r : Row} → Fits address r → Held r
-fits-held {r = r} f = record {
-  xLong = column-long (r .x) (let few = f .xFits in omega arith);
-  yLong = column-long (r .y) (let few = f .yFits in omega arith);
-  widthLong = column-long (2 ^ r .ew) (let few = f .widthFits in omega arith);
-  heightLong = column-long (2 ^ r .eh) (let few = f .heightFits in omega arith);
-  qtLong = column-long (r .qt) (let few = f .qtFits in omega arith);
-  mttLong = column-long (r .mtt) (let few = f .mttFits in omega arith);
-}
-
--- so are those of any small row, where depths of three digits fill their columns
 pub small-held : {r : Row} → SmallRow r → Held r
 small-held {r} s = record {
   xLong = column-long (r .x) (digits-few 5 (r .x) (let most = s .xFits in omega arith));
@@ -58,17 +47,13 @@ small-held {r} s = record {
   mttLong = column-long (r .mtt) (digits-few 2 (r .mtt) (let most = s .depths in omega arith));
 }
 
-held-long : (address : ℕ) {r : Row} → length (digits address) ≤ 6 → Held r → length (line address r) ≡ 33
+-- so a line has 33 bytes
+pub line-long : (address : ℕ) {r : Row} → address < 1000000 → SmallRow r → length (line address r) ≡ 33
 unfolding line rowColumns
-held-long address {r} h held =
-    let a : length (column 6 address) ≡ 6 = column-long address h in
+line-long address {r} h small =
+    let a : length (column 6 address) ≡ 6 = column-long address (digits-few 5 address h) in
+    let held = small-held small in
     simp (length-append, a, held .xLong, held .yLong, held .widthLong, held .heightLong, held .qtLong, held .mttLong)
-
-pub line-long : {address : ℕ} {r : Row} → Fits address r → length (line address r) ≡ 33
-line-long {address} f = held-long address (f .addressFits) (fits-held f)
-
-pub small-line-long : (address : ℕ) {r : Row} → address < 1000000 → SmallRow r → length (line address r) ≡ 33
-small-line-long address h s = held-long address (digits-few 5 address h) (small-held s)
 
 pub lines-long : (address : ℕ) {rows : List Row} → Every (λ r. length (line address r) ≡ 33) rows → length (lines address rows) ≡ 33 * length rows
 unfolding lines

@@ -9,23 +9,29 @@ use Rattle.settings.specs.declared.Settings.{Settings}
 use Rattle.settings.specs.Units.{unitRefusal}
 use Rattle.tree.specs.Rows.{tableBytes}
 use Rattle.tree.specs.Tree.{rowsOf}
-use Rattle.unit.specs.declared.Answer.the-variants.{Refused}
+use Rattle.laws.proofs.Tests.{never}
+use Rattle.unit.specs.declared.Answer.the-variants.{Accepted, Refused}
 use Rattle.unit.specs.Answers.{deliver}
 use Rattle.unit.specs.Writer.{writeFlags}
-use Rattle.unit.specs.Exactly.{UnitTree, OneOf}
+use Rattle.unit.specs.Exactly.{UnitTree, OneOf, Bytes}
 use Rattle.unit.specs.Faults.{rowsNumbers}
-use Rattle.unit.proofs.Accepts.{undelivered}
+use Rattle.unit.proofs.Accepts.{delivered, undelivered}
 use Rattle.unit.proofs.Decided.{not-listed, tested-decides}
 use Rattle.unit.proofs.RootTree.{root-said}
 use Rattle.unit.proofs.Roots.{root-of}
 use Rattle.unit.proofs.Sizes.{rows-most}
-use Rattle.unit.proofs.Tested.{Passed, Tested, faulty, passed, tested, tree-tested}
+use Rattle.unit.proofs.Tested.{Passed, Tested, faulty, passed, tested, tree-tested, table-of}
 use Rattle.unit.proofs.TurnsExactly.{write-stopped, write-given}
 use Rattle.page.specs.Lines.{digitsIn, digits, column, rowColumns, line, lines}
 use Rattle.page.specs.Page.{writePage}
 use Rattle.page.specs.PartitionPage.{Printed, PartitionPage}
 use Rattle.page.proofs.Fitting.{lines-long}
 use Rattle.page.proofs.Passing.{tree-fits, tree-wide, page-stopped, page-given}
+
+-- the page of rows that pass is their tree's
+page-passed : (s : Settings) (a : ℕ) (bytes page : List ℕ) (p : Passed s a bytes)
+    → writePage s a bytes page ≡ deliver 23 (length (lines a (rowsOf (p .tree)))) (lines a (rowsOf (p .tree))) page
+page-passed s a bytes page p = page-given s a bytes page (ap (λ r. r .end) (p .gives-flags)) ∙ rw (← (p .rows))
 
 -- ---- of the trees of a unit that is there
 
@@ -39,20 +45,29 @@ module _ (s : Settings) (a : ℕ) (h : unitRefusal s a ≡ 0) where
   long : (t : UnitTree s a) → length (lines a (rowsOf t)) ≡ 33 * length (rowsOf t)
   long t = lines-long a (tree-wide s a h t)
 
+  only : (bytes : List ℕ) → Bytes bytes → (page : List ℕ) (m : ℕ) → writePage s a bytes page .answer ≡ Accepted m
+      → (t : UnitTree s a) × (tableBytes (rowsOf t) ≡ bytes) × (length (lines a (rowsOf t)) ≡ m)
+  only bytes small page m e = go (tested s a bytes)
+    where
+      go : Tested s a bytes → (t : UnitTree s a) × (tableBytes (rowsOf t) ≡ bytes) × (length (lines a (rowsOf t)) ≡ m)
+      go (faulty f w) = let g = page-stopped s a bytes page _ _ w in never (cc)
+      go (passed p) = (p .tree, table-of s a bytes small p, delivered 23 _ _ page (rw (page-passed s a bytes page p) at e) .0)
+
   printed : Printed s a
   printed = record {
+    only = λ bytes small page m e.
+        let o = only bytes small page m e in
+        let l = long (o .0) in
+        let n = o .2 in
+        (o .0, o .1, omega arith);
     prints = λ t page. of-tree t page (let l = long t in omega arith);
     wide = tree-wide s a h;
+    long = long;
     most = λ t. let l = long t in let m = rows-most s a h t in omega arith;
     fits = tree-fits s a h;
   }
 
 -- ---- what is refused
-
--- the page of rows that pass is their tree's
-page-passed : (s : Settings) (a : ℕ) (bytes page : List ℕ) (p : Passed s a bytes)
-    → writePage s a bytes page ≡ deliver 23 (length (lines a (rowsOf (p .tree)))) (lines a (rowsOf (p .tree))) page
-page-passed s a bytes page p = page-given s a bytes page (ap (λ r. r .end) (p .gives-flags)) ∙ rw (← (p .rows))
 
 module _ (s : Settings) (a : ℕ) (bytes page buffer : List ℕ) (number place : ℕ) (o : OneOf number rowsNumbers) where
   both : (writePage s a bytes page .answer ≡ Refused number place) ↔ (writeFlags s a bytes buffer .answer ≡ Refused number place)

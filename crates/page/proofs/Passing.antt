@@ -9,33 +9,32 @@ use Rattle.settings.specs.declared.Settings.{Settings}
 use Rattle.settings.specs.Units.{unitRefusal}
 use Rattle.settings.proofs.Grid.{count-most, unit-taken}
 use Rattle.tree.specs.declared.Direction.the-variants.{Horizontal, Vertical}
-use Rattle.tree.specs.Rows.{Row}
-use Rattle.tree.specs.Run.{End, goes, stops}
+use Rattle.tree.specs.Rows.{Row, rowsIn}
+use Rattle.tree.specs.Run.{goes, stops}
 use Rattle.tree.specs.Tree.{rowsOf}
 use Rattle.laws.specs.Every.{Every}
 use Rattle.laws.specs.Geometry.{SmallRow}
 use Rattle.laws.proofs.DepthBound.{rows-deep}
 use Rattle.laws.proofs.Every.{every-map, every-both}
 use Rattle.laws.proofs.Shape.{side-power}
-use Rattle.laws.proofs.Tests.{never}
+use Rattle.laws.proofs.Tables.{rows-long}
 use Rattle.unit.specs.declared.Answer.{Answer}
 use Rattle.unit.specs.declared.Answer.the-variants.{Accepted, Refused}
-use Rattle.unit.specs.Answers.{Meets, refused, deliver, finishEnd, endAnswer, answerOf}
+use Rattle.unit.specs.Answers.{Meets, refused, deliver, finishEnd, answerOf}
 use Rattle.unit.specs.Luma.{kindOf}
 use Rattle.unit.specs.Writer.{testUnit}
 use Rattle.unit.specs.Exactly.{UnitTree}
-use Rattle.unit.proofs.Parsed.{rowsIn}
+use Rattle.unit.proofs.Accepts.{answer-stops, answer-goes}
 use Rattle.unit.proofs.Roots.{root-of}
 use Rattle.unit.proofs.RootTree.{root-small}
 use Rattle.unit.proofs.Sizes.{rows-most}
 use Rattle.unit.proofs.Tested.{passes}
-use Rattle.back.proofs.Way.{rows-long}
 use Rattle.page.specs.Lines.{line, Fits}
 use Rattle.page.specs.Page.{pageText, writePage}
-use Rattle.page.proofs.Fitting.{fits, line-long, small-line-long, lines-long}
+use Rattle.page.proofs.Fitting.{fits, line-long, lines-long}
 
 module _ (s : Settings) (a : ℕ) (h : unitRefusal s a ≡ 0) where
-  pub address-small : a < 1000000
+  address-small : a < 1000000
   address-small = let t = unit-taken s a h in let m = count-most s (t .0) in let l = t .1 in omega arith
 
   pub tree-fits : (t : UnitTree s a) → Every (Fits a) (rowsOf t)
@@ -49,9 +48,9 @@ module _ (s : Settings) (a : ℕ) (h : unitRefusal s a ≡ 0) where
       let deep = rows-deep (kindOf s) b (omega arith) sh (omega arith) t in
       every-map (λ row p. fits address-small (p .0) (p .1)) (every-both (root-small r t) deep)
 
-  -- so each line has 33 bytes
+  -- each line has 33 bytes
   pub tree-wide : (t : UnitTree s a) → Every (λ r. length (line a r) ≡ 33) (rowsOf t)
-  tree-wide t = every-map (λ r f. line-long f) (tree-fits t)
+  tree-wide t = every-map (λ r small. line-long a address-small small) (root-small (root-of s a h) t)
 
 -- what `print` asks: rows that are accepted have a small address, are few, and small
 pub accepted-rows : (s : Settings) (a : ℕ) (bytes : List ℕ) {count : ℕ} → answerOf (testUnit s a bytes) ≡ Accepted count
@@ -69,7 +68,7 @@ module _ (a : ℕ) (bytes page : List ℕ) (h : a < 1000000) (small : Every Smal
   text-long : length (pageText a bytes) ≡ 33 * (length bytes / 8)
   text-long =
       let n = rows-long (length bytes / 8) bytes 0 in
-      let l = lines-long a (every-map (λ r s. small-line-long a h s) small) in
+      let l = lines-long a (every-map (λ r s. line-long a h s) small) in
       omega arith
 
   module _ (n : ℕ) (e : n ≡ length bytes / 8 * 33) where
@@ -99,13 +98,8 @@ module _ (s : Settings) (a : ℕ) (bytes page : List ℕ) where
   page-given e = rw e
 
   pub page-refused : {k p : ℕ} → answerOf (testUnit s a bytes) ≡ Refused k p → Meets (writePage s a bytes page) (Refused k p) page
-  page-refused {k} {p} e = go (testUnit s a bytes .end) refl e
-    where
-      go : (end : End (List Row)) → testUnit s a bytes .end ≡ end → endAnswer (length (testUnit s a bytes .given)) (testUnit s a bytes .end) ≡ Refused k p
-          → Meets (writePage s a bytes page) (Refused k p) page
-      go (goes rest) f g = let h = rw f at g in never (cc)
-      go (stops i j) f g = rw (page-stopped i j f) (record { answers = sym (rw f at g); leaves = refl })
+  page-refused e = rw (page-stopped _ _ (answer-stops (testUnit s a bytes) e)) (record { answers = refl; leaves = refl })
 
   pub page-printed : {count : ℕ} → answerOf (testUnit s a bytes) ≡ Accepted count → {said : Answer} {left : List ℕ}
       → Meets (deliver 23 (length (pageText a bytes)) (pageText a bytes) page) said left → Meets (writePage s a bytes page) said left
-  page-printed e m = rw (page-given (ap (λ r. r .end) (passes s a bytes e .gives-flags))) m
+  page-printed e m = rw (page-given (answer-goes (testUnit s a bytes) e .2)) m

@@ -9,7 +9,7 @@ use Rattle.settings.specs.Units.{unitRefusal}
 use Rattle.tree.specs.Rows.{tableBytes}
 use Rattle.tree.specs.Tree.{rowsOf}
 use Rattle.laws.specs.Every.{Every}
-use Rattle.unit.specs.declared.Answer.the-variants.{Refused}
+use Rattle.unit.specs.declared.Answer.the-variants.{Accepted, Refused}
 use Rattle.unit.specs.Answers.{deliver}
 use Rattle.unit.specs.Cases.{row}
 use Rattle.unit.specs.Writer.{writeFlags}
@@ -27,11 +27,15 @@ pageNumbers = rowsNumbers ++ (23 ∷ [])
 
 -- the pages of a unit's coding trees
 pub record Printed (s : Settings) (a : ℕ) : Type 0 where
-  -- the rows of a tree are printed, "one row a line", and "an accepted page answers its bytes", 33 for each row
+  -- "Only rows that some tree gives are printed", and "an accepted page answers its bytes", 33 for each row
+  pub only : (bytes : List ℕ) → Bytes bytes → (page : List ℕ) (m : ℕ) → writePage s a bytes page .answer ≡ Accepted m
+      → (t : UnitTree s a) × (tableBytes (rowsOf t) ≡ bytes) × (33 * length (rowsOf t) ≡ m)
+  -- all of these are, "one row a line"
   pub prints : (t : UnitTree s a) (page : List ℕ)
       → writePage s a (tableBytes (rowsOf t)) page ≡ deliver 23 (33 * length (rowsOf t)) (lines a (rowsOf t)) page
-  -- a line has "33 bytes"
+  -- a line has "33 bytes", so what 23 asks for is "33 × rows"
   pub wide : (t : UnitTree s a) → Every (λ r. length (line a r) ≡ 33) (rowsOf t)
+  pub long : (t : UnitTree s a) → length (lines a (rowsOf t)) ≡ 33 * length (rowsOf t)
   -- no page of a unit is longer than that of 1,024 rows
   pub most : (t : UnitTree s a) → length (lines a (rowsOf t)) ≤ 33792
   -- nothing is cut off, and columns never touch
@@ -43,7 +47,7 @@ pub record PartitionPage : Type 0 where
   -- what is refused, with its number and place, and nothing else; a refusal leaves the page as it was
   pub decided : (s : Settings) (a : ℕ) (bytes : List ℕ) → Bytes bytes → (page : List ℕ)
       → Decides (PageFault s a bytes (length page)) pageNumbers (writePage s a bytes page .answer) page (writePage s a bytes page .buffer)
-  -- "Only rows that some tree gives are printed; others get the way back's refusals"
+  -- "others get the way back's refusals"
   pub others : (s : Settings) (a : ℕ) (bytes page buffer : List ℕ) (number place : ℕ) → OneOf number rowsNumbers
       → (writePage s a bytes page .answer ≡ Refused number place) ↔ (writeFlags s a bytes buffer .answer ≡ Refused number place)
   -- "P2's second row reads `     0    32     0  32  32  1  0`"

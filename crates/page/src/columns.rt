@@ -32,7 +32,7 @@ pub(crate) fn put_side(page: &mut [u8], at: usize, exponent: u8)
     page[at + 3] = (text / 16777216 % 256) as u8;
 }
 
-// A depth in 3 columns; those of a tree have two digits at most.
+// A depth in 3 columns. Most have one digit, and are written at once.
 pub(crate) fn put_depth(page: &mut [u8], at: usize, depth: u8)
     requires { ⌜ at + 3 ≤ length (now page) ⌝ }
     ensures { λ _. ⌜ now (page .exit) ≡ sets (now (page .entry)) at (column 3 depth) ⌝ }

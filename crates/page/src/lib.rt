@@ -6,9 +6,9 @@ mod text;
 
 use settings::Settings;
 use unit::Answer;
-ghost use Prim.Native.Nat.{_/_, _≤_, _<_};
+ghost use Prim.Native.Nat.{_≤_, _<_};
 ghost use lib.ListN.{length};
-ghost use Rattle.tree.specs.Rows.{rowsAt};
+ghost use Rattle.tree.specs.Rows.{rowsIn};
 ghost use Rattle.laws.specs.Every.{Every};
 ghost use Rattle.laws.specs.Geometry.{SmallRow};
 ghost use Rattle.unit.specs.Answers.{Meets, deliver};
@@ -16,7 +16,7 @@ ghost use Rattle.page.specs.Page.{pageText, writePage};
 
 // The lines of rows that passed the test, or refusal 23.
 fn print(address: usize, rows: &[u8], page: &mut [u8]) -> Answer
-    requires { ⌜ (address < 1000000) × (length (now rows) ≤ 8192) × Every SmallRow (rowsAt (length (now rows) / 8) (now rows) 0) ⌝ }
+    requires { ⌜ (address < 1000000) × (length (now rows) ≤ 8192) × Every SmallRow (rowsIn (now rows)) ⌝ }
     ensures { λ r. ⌜ Meets (deliver 23 (length (pageText address (now (rows .entry)))) (pageText address (now (rows .entry))) (now (page .entry))) r (now (page .exit)) ⌝ }
 {
     let n = rows.len() / 8 * 33;

@@ -8,7 +8,7 @@ ghost use mathlib.Core.List.{_++_};
 ghost use Prim.Native.Nat.{_+_, _*_, _/_, _≤_, _<_};
 ghost use lib.ListN.{length, getD, drop};
 ghost use lib.Seq.{sets};
-ghost use Rattle.tree.specs.Rows.{rowAt, rowsAt};
+ghost use Rattle.tree.specs.Rows.{rowAt, rowsIn};
 ghost use Rattle.laws.specs.Every.{Every};
 ghost use Rattle.laws.specs.Geometry.{SmallRow};
 ghost use Rattle.page.specs.Lines.{rowColumns, lines};
@@ -39,8 +39,8 @@ fn put_line(page: &mut [u8], at: usize, address: u64, rows: &[u8], i: usize)
 
 // The lines of all rows, at the front of a page.
 pub(crate) fn put_lines(address: u32, rows: &[u8], page: &mut [u8])
-    requires { ⌜ (address < 1000000) × (33 * (length (now rows) / 8) ≤ length (now page)) × Every SmallRow (rowsAt (length (now rows) / 8) (now rows) 0) ⌝ }
-    ensures { λ _. ⌜ now (page .exit) ≡ lines address (rowsAt (length (now (rows .entry)) / 8) (now (rows .entry)) 0) ++ drop (33 * (length (now (rows .entry)) / 8)) (now (page .entry)) ⌝ }
+    requires { ⌜ (address < 1000000) × (33 * (length (now rows) / 8) ≤ length (now page)) × Every SmallRow (rowsIn (now rows)) ⌝ }
+    ensures { λ _. ⌜ now (page .exit) ≡ lines address (rowsIn (now (rows .entry))) ++ drop (33 * (length (now (rows .entry)) / 8)) (now (page .entry)) ⌝ }
 {
     let text = six(address);
     let n = rows.len() / 8;

@@ -1,4 +1,4 @@
-// A number's characters in one number, the first in the lowest byte, so that few stores write them.
+// A number's characters in one number, the first in the lowest byte: they are made by a few quotients, without a loop.
 ghost use mathlib.Core.Path.{_≡_};
 ghost use Prim.Native.Nat.{_^_, _≤_, _<_};
 ghost use Rattle.page.specs.Lines.{column};

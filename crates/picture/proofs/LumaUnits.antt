@@ -14,10 +14,10 @@ use Rattle.laws.specs.Geometry.{pipelineSide}
 use Rattle.laws.proofs.Tests.{never}
 use Rattle.tree.specs.Run.{refuse}
 use Rattle.unit.specs.declared.Answer.the-variants.{Accepted}
-use Rattle.unit.specs.Answers.{refused, finish}
+use Rattle.unit.specs.Answers.{refused}
 use Rattle.unit.specs.Luma.{kindOf, rootAt}
 use Rattle.unit.specs.Reader.{readTree}
-use Rattle.unit.specs.Writer.{testRows, writeRows}
+use Rattle.unit.specs.Writer.{testRows, flagsInto, writeRows}
 use Rattle.unit.proofs.Roots.{Root, usable-root}
 use Rattle.unit.proofs.AcceptedTree.{accepted-tree, tree-back}
 use Rattle.sessions.proofs.Parts.{GoodRoot}
@@ -35,7 +35,7 @@ lumaUnits s refusal = record {
   read = λ a flags buffer.
       cond (eqb (refusal a) 0) (readTree (kindOf s) (rootAt s a) flags buffer) (refused (refusal a) 0 buffer);
   turn = λ a bytes buffer.
-      finish (λ flags. flags) 17 (cond (eqb (refusal a) 0) (testRows (kindOf s) (rootAt s a) bytes) (refuse (refusal a) 0)) buffer;
+      flagsInto buffer (cond (eqb (refusal a) 0) (testRows (kindOf s) (rootAt s a) bytes) (refuse (refusal a) 0));
 }
 
 good-root : {s : Settings} {a : ℕ} → Root s a

@@ -1,7 +1,7 @@
 -- Rows: what a leaf is in the table, and its 8 bytes.
 use Prim.Native.Nat.{ℕ, zero, suc, _+_, _*_, _/_, _%_}
 use mathlib.Core.List.{List, [], _∷_, _++_}
-use lib.ListN.{getD}
+use lib.ListN.{length, getD}
 use Rattle.sides.specs.Side.{exponent}
 use Rattle.tree.specs.declared.Node.{Node}
 use Rattle.tree.specs.declared.Decision.{Decision}
@@ -51,3 +51,7 @@ rowAt bytes at = record {
 unfoldable pub rowsAt : ℕ → List ℕ → ℕ → List Row
 rowsAt zero bytes at = []
 rowsAt (suc count) bytes at = rowAt bytes at ∷ rowsAt count bytes (at + 8)
+
+-- all whole rows that bytes have
+abbrev pub rowsIn : List ℕ → List Row
+rowsIn bytes = rowsAt (length bytes / 8) bytes 0

@@ -1,14 +1,15 @@
--- What a call answers: laws of the delivery into a buffer.
+-- What a call answers: laws of the delivery into a buffer, and of a run's answer.
 use Prim.Native.Nat.{ℕ, _≤_, _<_}
-use mathlib.Core.Path.{_≡_, refl}
+use mathlib.Core.Path.{_≡_, refl, _∙_}
 use mathlib.Core.Bool.{Bool, true, false, cond}
 use mathlib.Core.List.{List}
 use lib.ListN.{length}
 use lib.Dec.{ltb}
 use borrow.Author.Tests.{lt-ltb, le-ltb, ltb-true}
+use Rattle.tree.specs.Run.{Run, End, goes, stops}
 use Rattle.laws.proofs.Tests.{never}
 use Rattle.unit.specs.declared.Answer.the-variants.{Accepted, Refused}
-use Rattle.unit.specs.Answers.{Outcome, refused, accepted, deliver}
+use Rattle.unit.specs.Answers.{Outcome, refused, accepted, deliver, answerOf}
 use Rattle.unit.specs.Exactly.{OneOf, AcceptedOr}
 
 module _ (number count : ℕ) (bytes buffer : List ℕ) where
@@ -55,3 +56,20 @@ module _ (number count : ℕ) (bytes buffer : List ℕ) where
 pub met-none : (b : Bool) (o : Outcome) (number place : ℕ) (buffer : List ℕ) {m : ℕ} → cond b o (refused number place buffer) .answer ≡ Accepted m → b ≡ true
 met-none true o number place buffer e = refl
 met-none false o number place buffer e = never (cc)
+
+-- ---- what the answer of a run says of its end
+
+module _ {A S : Type 0} (run : Run A S) where
+  pub answer-stops : {k p : ℕ} → answerOf run ≡ Refused k p → run .end ≡ stops k p
+  answer-stops {k} {p} e = go (run .end) refl e
+    where
+      go : (end : End S) → run .end ≡ end → answerOf run ≡ Refused k p → run .end ≡ stops k p
+      go (goes s) f g = let h = rw f at g in never (cc)
+      go (stops a b) f g = let h = rw f at g in let x : a ≡ k = cc in let y : b ≡ p = cc in f ∙ rw (x, y)
+
+  pub answer-goes : {n : ℕ} → answerOf run ≡ Accepted n → (length (run .given) ≡ n) × (s : S) × (run .end ≡ goes s)
+  answer-goes {n} e = go (run .end) refl e
+    where
+      go : (end : End S) → run .end ≡ end → answerOf run ≡ Accepted n → (length (run .given) ≡ n) × (s : S) × (run .end ≡ goes s)
+      go (goes s) f g = let h = rw f at g in let c : length (run .given) ≡ n = cc in (c, s, f)
+      go (stops a b) f g = let h = rw f at g in never (cc)

@@ -78,7 +78,7 @@ pub is-refused : {o : Outcome} {number place : ℕ} {buffer : List ℕ} → o �
 is-refused e = (ap (λ o. o .answer) e, ap (λ o. o .buffer) e)
 
 -- the fault of a refusal is that of the same refusal
-same-fault : (Fault : ℕ → ℕ → Type 0) {a p number place : ℕ} → Fault a p → a ≡ number → p ≡ place
+pub same-fault : (Fault : ℕ → ℕ → Type 0) {a p number place : ℕ} → Fault a p → a ≡ number → p ≡ place
     → Fault number place
 same-fault Fault {a} {p} {number} {place} f e g = subst (λ x. Fault x place) e (subst (Fault a) g f)
 
@@ -138,6 +138,12 @@ module _ (s : Settings) (a : ℕ) (flags buffer : List ℕ) where
   pub reading-decides : Decides Fault readNumbers (readUnit s a flags buffer .answer) buffer (readUnit s a flags buffer .buffer)
   reading-decides = decides Fault readNumbers read-fault (λ number place f. is-refused (read-refused number place f)) read-number
 
+-- the number of a fault of rows is one of their list
+pub rows-listed : (s : Settings) (a : ℕ) {bytes : List ℕ} {number place : ℕ} → RowsFault s a bytes number place → OneOf number rowsNumbers
+rows-listed s a {number = number} (rows-unit f) = one-of-more number unitNumbers (15 ∷ 16 ∷ []) (unit-number s a f)
+rows-listed s a (rows-cut h w) = one-of-later 15 unitNumbers (15 ∷ 16 ∷ []) (inl refl)
+rows-listed s a (rows-none h w none) = one-of-later 16 unitNumbers (15 ∷ 16 ∷ []) (inr (inl refl))
+
 -- a call that tests rows, and delivers what it makes of the tree that has them
 module _ (s : Settings) (a : ℕ) (bytes : List ℕ) (small : Bytes bytes) (buffer : List ℕ)
     (short : ℕ) (made : UnitTree s a → List ℕ) (call : Outcome)
@@ -165,13 +171,8 @@ module _ (s : Settings) (a : ℕ) (bytes : List ℕ) (small : Bytes bytes) (buff
           let same : p .tree ≡ t = turns-exactly s a h .unique (p .tree) t (table-of s a bytes small p ∙ sym e) in
           delivers p ∙ rw same (deliver-short short _ _ buffer l)
 
-  rows-listed : {number place : ℕ} → RowsFault s a bytes number place → OneOf number rowsNumbers
-  rows-listed {number} (rows-unit f) = one-of-more number unitNumbers (15 ∷ 16 ∷ []) (unit-number s a f)
-  rows-listed (rows-cut h w) = one-of-later 15 unitNumbers (15 ∷ 16 ∷ []) (inl refl)
-  rows-listed (rows-none h w none) = one-of-later 16 unitNumbers (15 ∷ 16 ∷ []) (inr (inl refl))
-
   tested-number : (number place : ℕ) → Wrong number place → OneOf number (rowsNumbers ++ (short ∷ []))
-  tested-number number place (tested-rows f) = one-of-more number rowsNumbers (short ∷ []) (rows-listed f)
+  tested-number number place (tested-rows f) = one-of-more number rowsNumbers (short ∷ []) (rows-listed s a f)
   tested-number number place (tested-room h t e l) = one-of-later short rowsNumbers (short ∷ []) (inl refl)
 
   pub tested-decides : Decides Wrong (rowsNumbers ++ (short ∷ [])) (call .answer) buffer (call .buffer)

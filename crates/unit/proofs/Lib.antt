@@ -14,6 +14,7 @@ pub mod TurnsExactly
 pub mod AcceptedTree
 pub mod RoundTrips
 pub mod Decided
+pub mod RowsTested
 pub mod Sizes
 pub mod Bounds
 pub mod FlagBuffer

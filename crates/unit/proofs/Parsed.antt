@@ -7,15 +7,11 @@ use lib.Seq.{drop-cons}
 use native.Mathlib.Omega.{arith}
 use native.Mathlib.Nat.{add-assoc}
 use native.Mathlib.Numerals.{add-one}
-use Rattle.tree.specs.Rows.{Row, rowBytes, tableBytes, rowAt, rowsAt}
+use Rattle.tree.specs.Rows.{Row, rowBytes, tableBytes, rowAt, rowsAt, rowsIn}
 use Rattle.laws.specs.Geometry.{SmallRow}
 use Rattle.laws.specs.Every.{Every}
 use Rattle.laws.proofs.Tables.{table-back}
 use Rattle.unit.specs.Exactly.{Bytes}
-
--- the rows that bytes say
-abbrev pub rowsIn : List ℕ → List Row
-rowsIn bytes = rowsAt (length bytes / 8) bytes 0
 
 pub table-length : (rows : List Row) → length (tableBytes rows) ≡ 8 * length rows
 unfolding tableBytes rowBytes

@@ -6,7 +6,7 @@ use native.Mathlib.Omega.{arith}
 use borrow.Author.Tests.{eq-eqb}
 use lib.ListN.{length}
 use Rattle.settings.specs.declared.Settings.{Settings}
-use Rattle.tree.specs.Rows.{tableBytes}
+use Rattle.tree.specs.Rows.{tableBytes, rowsIn}
 use Rattle.tree.specs.Tree.{flagsOf, rowsOf}
 use Rattle.laws.specs.Every.{Every}
 use Rattle.laws.specs.Geometry.{SmallRow}
@@ -19,7 +19,7 @@ use Rattle.unit.specs.Luma.{kindOf, rootAt}
 use Rattle.unit.specs.Writer.{testRows, writeRows}
 use Rattle.unit.specs.Exactly.{UnitTree}
 use Rattle.unit.proofs.Roots.{Root}
-use Rattle.unit.proofs.Parsed.{rowsIn, table-length, small-back}
+use Rattle.unit.proofs.Parsed.{table-length, small-back}
 use Rattle.unit.proofs.TreeTurning.{tree-turned}
 
 module _ {s : Settings} {a : ℕ} (r : Root s a) where

@@ -9,7 +9,7 @@ use borrow.Author.Tests.{eq-eqb, ne-eqb}
 use lib.ListN.{length}
 use Rattle.settings.specs.declared.Settings.{Settings}
 use Rattle.settings.specs.Units.{unitRefusal}
-use Rattle.tree.specs.Rows.{tableBytes}
+use Rattle.tree.specs.Rows.{tableBytes, rowsIn}
 use Rattle.tree.specs.Run.{stops, refuse}
 use Rattle.tree.specs.Tree.{flagsOf, rowsOf}
 use Rattle.laws.proofs.Runs.{gives}
@@ -23,7 +23,7 @@ use Rattle.unit.specs.Exactly.{UnitTree, Bytes}
 use Rattle.unit.specs.Faults.{RowsFault, rows-unit, rows-cut, rows-none}
 use Rattle.unit.proofs.Roots.{root-of}
 use Rattle.unit.proofs.RootTree.{root-turning, root-tested}
-use Rattle.unit.proofs.Parsed.{rowsIn, bytes-back}
+use Rattle.unit.proofs.Parsed.{bytes-back}
 use Rattle.unit.proofs.TreeTurning.{RowsTurned, tree-turned, turned-or-refused}
 use Rattle.unit.proofs.UnitFaults.{unit-fault, unit-refused}
 

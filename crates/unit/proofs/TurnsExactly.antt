@@ -7,7 +7,7 @@ use native.Mathlib.Omega.{arith}
 use lib.ListN.{length}
 use Rattle.settings.specs.declared.Settings.{Settings}
 use Rattle.settings.specs.Units.{unitRefusal}
-use Rattle.tree.specs.Rows.{tableBytes}
+use Rattle.tree.specs.Rows.{tableBytes, rowsIn}
 use Rattle.tree.specs.Run.{stops}
 use Rattle.tree.specs.Tree.{flagsOf, rowsOf}
 use Rattle.laws.proofs.Runs.{gives}
@@ -21,7 +21,6 @@ use Rattle.unit.specs.Faults.{RowsFault, rows-unit, rows-cut, rows-none}
 use Rattle.unit.proofs.Roots.{root-of}
 use Rattle.unit.proofs.RootTree.{root-turning, root-said}
 use Rattle.unit.proofs.Accepts.{delivered, undelivered, deliver-or}
-use Rattle.unit.proofs.Parsed.{rowsIn}
 use Rattle.unit.proofs.Tested.{Tested, faulty, passed, unit-tested, tree-tested, tested, table-of, fault-stops}
 use Rattle.unit.proofs.UnitFaults.{unit-refused}
 

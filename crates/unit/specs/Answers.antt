@@ -19,7 +19,7 @@ numberOf (Refused number place) = number
 abbrev pub ZeroIsAccepted : Answer → Type 0
 ZeroIsAccepted answer = (numberOf answer ≡ 0) ↔ ((count : ℕ) × (answer ≡ Accepted count))
 
--- its value: the place of a refusal, or the number of rows or flags that an accepted call answers
+-- its value: the place of a refusal, or the count that an accepted call answers, of rows, flags or bytes of a page
 abbrev pub valueOf : Answer → ℕ
 valueOf (Accepted count) = count
 valueOf (Refused number place) = place
@@ -42,7 +42,7 @@ refused number place buffer = record { answer = Refused number place; buffer = b
 abbrev pub accepted : ℕ → List ℕ → List ℕ → Outcome
 accepted count bytes buffer = record { answer = Accepted count; buffer = bytes ++ drop (length bytes) buffer }
 
--- So many rows or flags, as bytes, into a buffer: refused with a number where it is too short for them, the place the count that is needed.
+-- So much, as bytes, into a buffer: refused with a number where it is too short for them, the place the count that is needed.
 unfoldable pub deliver : ℕ → ℕ → List ℕ → List ℕ → Outcome
 deliver number count bytes buffer = cond (ltb (length buffer) (length bytes)) (refused number count buffer) (accepted count bytes buffer)
 

@@ -42,7 +42,7 @@ pub data FlagFault (k : Kind) (root : Node) (flags : List ℕ) : ℕ → ℕ →
   run-over : (t : Tree k root) (byte : ℕ) (after : List ℕ) → flags ≡ flagsOf t ++ (byte ∷ after)
       → FlagFault k root flags 13 (length (flagsOf t))
 
--- ---- the two calls, by the length of the buffer that they are lent
+-- ---- the calls on a unit, by the length of the buffer that they are lent
 
 pub data ReadFault (s : Settings) (a : ℕ) (flags : List ℕ) (room : ℕ) : ℕ → ℕ → Type 0 where
   read-unit : {number : ℕ} → UnitFault s a number → ReadFault s a flags room number 0
@@ -69,7 +69,7 @@ pub data TestedFault (s : Settings) (a : ℕ) (bytes : List ℕ) (short : ℕ) (
   tested-room : unitRefusal s a ≡ 0 → (t : UnitTree s a) → tableBytes (rowsOf t) ≡ bytes → room < length (made t)
       → TestedFault s a bytes short made room short (length (made t))
 
--- "Flag buffer shorter than the flags; place: flags needed"
+-- the way back: the rows' faults; then "Flag buffer shorter than the flags; place: flags needed"
 abbrev pub TurnFault : Settings → ℕ → List ℕ → ℕ → ℕ → ℕ → Type 0
 TurnFault s a bytes room = TestedFault s a bytes 17 flagsOf room
 
@@ -79,6 +79,7 @@ TurnFault s a bytes room = TestedFault s a bytes 17 flagsOf room
 abbrev pub readNumbers : List ℕ
 readNumbers = 1 ∷ 2 ∷ 3 ∷ 4 ∷ 5 ∷ 6 ∷ 7 ∷ 8 ∷ 9 ∷ 10 ∷ 11 ∷ 12 ∷ 13 ∷ 14 ∷ []
 
+-- the test of rows uses those of the way back but 17
 abbrev pub rowsNumbers : List ℕ
 rowsNumbers = 1 ∷ 2 ∷ 3 ∷ 4 ∷ 5 ∷ 6 ∷ 7 ∷ 8 ∷ 9 ∷ 10 ∷ 15 ∷ 16 ∷ []
 

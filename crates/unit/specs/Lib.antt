@@ -9,3 +9,4 @@ pub mod Demand2
 pub mod Bounds
 pub mod Edge
 pub mod FlagBuffer
+pub mod RowsTested

@@ -9,7 +9,7 @@ use Rattle.settings.specs.declared.Settings.{Settings}
 use Rattle.settings.specs.Units.{unitRefusal}
 use Rattle.tree.specs.declared.Node.{Node}
 use Rattle.tree.specs.Kind.{Kind}
-use Rattle.tree.specs.Rows.{Row, rowsAt}
+use Rattle.tree.specs.Rows.{Row, rowsIn}
 use Rattle.tree.specs.Run.{Run, End, goes, stops, refuse}
 use Rattle.tree.specs.Back.{backNode}
 use Rattle.unit.specs.Answers.{Outcome, finish}
@@ -28,17 +28,21 @@ flagsFrom k root rows = record { given = backNode k root rows .given; end = none
 -- the test of a table: 15 where its bytes are no multiple of 8, the place its whole rows; then 16, or the flags of its rows
 unfoldable pub testRows : Kind → Node → List ℕ → Run ℕ (List Row)
 testRows k root bytes =
-    cond (eqb (length bytes % 8) 0) (flagsFrom k root (rowsAt (length bytes / 8) bytes 0)) (refuse 15 (length bytes / 8))
+    cond (eqb (length bytes % 8) 0) (flagsFrom k root (rowsIn bytes)) (refuse 15 (length bytes / 8))
 
 -- the test of a unit's table: refusals 1 to 10, 15 and 16, or the flags that give exactly its rows
 unfoldable pub testUnit : Settings → ℕ → List ℕ → Run ℕ (List Row)
 testUnit s address bytes =
     cond (eqb (unitRefusal s address) 0) (testRows (kindOf s) (rootAt s address) bytes) (refuse (unitRefusal s address) 0)
 
--- the way back of a table: the test, and the delivery of its flags, refusal 17
+-- the delivery of a test's flags, refusal 17
+abbrev pub flagsInto : List ℕ → Run ℕ (List Row) → Outcome
+flagsInto buffer test = finish (λ flags. flags) 17 test buffer
+
+-- the way back of a table, refusals 15 to 17
 unfoldable pub writeRows : Kind → Node → List ℕ → List ℕ → Outcome
-writeRows k root bytes buffer = finish (λ flags. flags) 17 (testRows k root bytes) buffer
+writeRows k root bytes buffer = flagsInto buffer (testRows k root bytes)
 
 -- the way back of a unit, refusals 1 to 10 and 15 to 17
 unfoldable pub writeFlags : Settings → ℕ → List ℕ → List ℕ → Outcome
-writeFlags s address bytes buffer = finish (λ flags. flags) 17 (testUnit s address bytes) buffer
+writeFlags s address bytes buffer = flagsInto buffer (testUnit s address bytes)

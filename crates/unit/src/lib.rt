@@ -1,4 +1,4 @@
-// One coding tree unit: the answers of its reader and of its way back, and its luma tree.
+// One coding tree unit: the answers of the calls on it, and its luma tree.
 use settings::Settings;
 use settings::Square;
 use tree::Decision;
@@ -8,7 +8,7 @@ ghost use mathlib.Core.Path.{_≡_};
 ghost use Rattle.unit.specs.Answers.{numberOf, valueOf};
 ghost use Rattle.unit.specs.Luma.{limitsOf, rootOf};
 
-// The answer of a call: how many rows or flags it wrote, or a refusal's number and place.
+// The answer of a call: how many rows, flags or bytes of a page there are, or a refusal's number and place.
 pub enum Answer {
     Accepted(usize),
     Refused(u32, usize),

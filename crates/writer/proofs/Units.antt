@@ -13,9 +13,9 @@ use Rattle.tree.specs.Kind.{luma}
 use Rattle.tree.specs.Run.{refuse}
 use Rattle.unit.specs.declared.Answer.{Answer}
 use Rattle.unit.specs.declared.Answer.the-variants as answer
-use Rattle.unit.specs.Answers.{Meets, finishEnd, finish, answerOf}
+use Rattle.unit.specs.Answers.{Meets, finishEnd, answerOf}
 use Rattle.unit.specs.Luma.{limitsOf, rootOf}
-use Rattle.unit.specs.Writer.{testRows, testUnit, writeRows, writeFlags}
+use Rattle.unit.specs.Writer.{testRows, testUnit, flagsInto, writeRows, writeFlags}
 use Rattle.unit.proofs.Located.{found, missed, same-root}
 use Rattle.unit.proofs.Tested.{unit-tested}
 
@@ -44,4 +44,4 @@ module _ (s : Settings) (a : ℕ) {r : Located} (e : r ≡ located s a) (bytes :
     pub unit-written : (b : List ℕ) {said : Answer} {left : List ℕ}
         → Meets (writeRows (luma l) root bytes b) said left → Meets (writeFlags s a bytes b) said left
     unfolding writeFlags writeRows
-    unit-written b {said} {left} m = subst (λ run. Meets (finish (λ flags. flags) 17 run b) said left) found-test m
+    unit-written b {said} {left} m = subst (λ run. Meets (flagsInto b run) said left) found-test m

@@ -10,19 +10,20 @@ use Rattle.tree.specs.declared.Limits.{Limits}
 use Rattle.tree.specs.declared.Node.{Node}
 use Rattle.tree.specs.declared.Decision.the-variants.{Quad}
 use Rattle.tree.specs.Kind.{luma}
-use Rattle.tree.specs.Rows.{Row, rowOf, rowsAt}
-use Rattle.tree.specs.Run.{Run, End, goes, stops, refuse}
+use Rattle.tree.specs.Rows.{Row, rowOf, rowsAt, rowsIn}
+use Rattle.tree.specs.Run.{Run, goes, refuse}
 use Rattle.tree.specs.Reading.{levelsLeft}
 use Rattle.tree.specs.Back.{backNode}
 use Rattle.blocks.specs.Words.{rowWord}
 use Rattle.blocks.proofs.Pastes.{sets-front}
 use Rattle.laws.proofs.BackBounds.{BackBound, back-bound}
 use Rattle.laws.proofs.BackRefusals.{BackFine, back-fine}
-use Rattle.laws.proofs.Tests.{never}
+use Rattle.laws.proofs.Tables.{rows-long}
 use Rattle.unit.specs.declared.Answer.{Answer}
 use Rattle.unit.specs.declared.Answer.the-variants.{Accepted, Refused}
-use Rattle.unit.specs.Answers.{Meets, deliver, finishEnd, endAnswer, answerOf}
+use Rattle.unit.specs.Answers.{Meets, deliver, finishEnd, answerOf}
 use Rattle.unit.specs.Writer.{flagsFrom, testRows, writeRows}
+use Rattle.unit.proofs.Accepts.{answer-stops, answer-goes}
 use Rattle.nodes.specs.Tables.{tableOf}
 use Rattle.nodes.specs.Words.{keptUnder}
 use Rattle.nodes.specs.Stands.{word}
@@ -30,7 +31,6 @@ use Rattle.nodes.specs.Walks.{Asked, Done, Walked}
 use Rattle.nodes.specs.Rooted.{Rooted}
 use Rattle.nodes.proofs.Roots.{area, sum, root-asks, root-walked}
 use Rattle.back.specs.Ahead.{rowsFrom, backWay}
-use Rattle.back.proofs.Way.{rows-long}
 use Rattle.writer.specs.Delivery.{walkEnd, deliverFlags, Kept}
 use Rattle.writer.proofs.Delivery.{Near, walk-end}
 
@@ -53,25 +53,12 @@ module _ (l : Limits) (root : Node) (bytes : List ℕ) where
     abbrev tested : Run ℕ (List Row)
     tested = testRows (luma l) root bytes
 
-    kept-end : {answer : Answer} → said ≡ answer → endAnswer (length (tested .given)) (tested .end) ≡ answer
-    kept-end e = sym (kept .answers) ∙ e
-
     pub kept-refused : {k p : ℕ} → said ≡ Refused k p → Meets (writeRows (luma l) root bytes buffer) (Refused k p) buffer
     unfolding writeRows finishEnd
-    kept-refused {k} {p} e = go (tested .end) refl (kept-end e)
-      where
-        go : (end : End (List Row)) → tested .end ≡ end → endAnswer (length (tested .given)) (tested .end) ≡ Refused k p
-            → Meets (writeRows (luma l) root bytes buffer) (Refused k p) buffer
-        go (goes rows) f g = let h = rw f at g in never (cc)
-        go (stops a b) f g = rw f (record { answers = sym (rw f at g); leaves = refl })
+    kept-refused e = rw (answer-stops tested (sym (kept .answers) ∙ e)) (record { answers = refl; leaves = refl })
 
     kept-count : {n : ℕ} → said ≡ Accepted n → (length (tested .given) ≡ n) × (rows : List Row) × (tested .end ≡ goes rows)
-    kept-count {n} e = go (tested .end) refl (kept-end e)
-      where
-        go : (end : End (List Row)) → tested .end ≡ end → endAnswer (length (tested .given)) (tested .end) ≡ Accepted n
-            → (length (tested .given) ≡ n) × (rows : List Row) × (tested .end ≡ goes rows)
-        go (goes rows) f g = let h = rw f at g in let c : length (tested .given) ≡ n = cc in (c, rows, f)
-        go (stops a b) f g = let h = rw f at g in never (cc)
+    kept-count e = answer-goes tested (sym (kept .answers) ∙ e)
 
     pub kept-few : {n : ℕ} → said ≡ Accepted n → n ≤ 8192
     kept-few e = rw (kept-count e .0) at (kept .few)
@@ -126,6 +113,6 @@ module _ {l : Limits} {root : Node} (r : Rooted l root) (bytes : List ℕ) where
       pub root-kept : length bytes % 8 ≡ 0 → {said : Answer} → said ≡ walkEnd answer bytes → Kept (testRows (luma l) root bytes) said b z
       unfolding testRows flagsFrom
       root-kept whole e =
-          let rows : rowsFrom bytes 0 ≡ rowsAt (length bytes / 8) bytes 0 = ap (λ i. rowsAt i bytes 0) (omega arith) in
+          let rows : rowsFrom bytes 0 ≡ rowsIn bytes = ap (λ i. rowsAt i bytes 0) (omega arith) in
           rw (eq-eqb _ _ whole, ← rows)
           (record { answers = e ∙ walk-end bytes run root-done few near fine; flags = root-done .given; few = few })

@@ -43,7 +43,7 @@ unfoldable pub deliverFlags : ℕ → List ℕ → List ℕ → Outcome
 deliverFlags n scratch buffer =
     cond (ltb (length buffer) n) (refused 17 n buffer) (record { answer = Accepted n; buffer = take n scratch ++ drop n buffer })
 
--- the answer of a test, and a scratch table, long enough, with its flags put at the front
+-- a test's answer, its flags at the front of a scratch table, and that they are 8,192 at most
 pub record Kept (run : Run ℕ (List Row)) (said : Answer) (before after : List ℕ) : Type 0 where
   pub answers : said ≡ answerOf run
   pub flags : after ≡ sets before 0 (run .given)

@@ -1,5 +1,5 @@
 // The way back of a single unit: rows become the flags that give them, or document 01's refusals 1 to 10 and 15 to 17.
-// It is a test, which callers have for itself, and the delivery of the flags.
+// It is a test, which can be called alone, and the delivery of the flags.
 mod deliver;
 mod test;
 
@@ -37,7 +37,7 @@ fn write_rows(l: Limits, root: Node, rows: &[u8], flags: &mut [u8]) -> Answer
     if rows.len() % 8 != 0 {
         return Answer::Refused(15, rows.len() / 8);
     }
-    if deliver::is_leaf(l, root, rows) {
+    if test::is_leaf(l, root, rows) {
         deliver::leaf_flags(splits::open_splits(l, root), flags)
     } else {
         write_all(l, root, rows, flags)

@@ -1,6 +1,8 @@
 // The way back's test: whether some flags give the rows of a unit, with document 01's refusals 1 to 10, 15 and 16.
-use crate::deliver;
 use back::Scratch;
+use back::same_row;
+use back::some_open;
+use nodes::Child;
 use settings::Located;
 use settings::Settings;
 use tree::Decision;
@@ -14,7 +16,42 @@ ghost use Rattle.tree.specs.Kind.{luma};
 ghost use Rattle.unit.specs.Answers.{answerOf};
 ghost use Rattle.unit.specs.Writer.{testRows, testUnit};
 ghost use Rattle.nodes.specs.Rooted.{Rooted};
-ghost use Rattle.writer.specs.Delivery.{Kept};
+ghost use Rattle.writer.specs.Delivery.{leafAlone, leafFlags, walkEnd, Kept};
+
+// Whether the only row is the root's own, and the root lies inside the picture: then it is a leaf.
+pub(crate) fn is_leaf(l: Limits, root: Node, rows: &[u8]) -> bool
+    requires { ⌜ Rooted l root ⌝ }
+    ensures { λ r. ⌜ r ≡ leafAlone l root (now (rows .entry)) ⌝ }
+{
+    if rows.len() != 8 {
+        return false;
+    }
+    if same_row(rows, 0, blocks::row_word(root)) {
+        !splits::out(l, root)
+    } else {
+        false
+    }
+}
+
+// How many flags a root has that is a leaf: its split flag, where some split is open.
+fn leaf_count(splits: u32) -> usize
+    ensures { λ r. ⌜ r ≡ length (leafFlags splits) ⌝ }
+{
+    if some_open(splits) { 1 } else { 0 }
+}
+
+// What a walk that answered a number says of the rows.
+fn walk_end(answer: u64, rows: &[u8]) -> Answer
+    ensures { λ r. ⌜ r ≡ walkEnd answer (now (rows .entry)) ⌝ }
+{
+    let Child::Walked(end) = nodes::taken_apart(answer) else {
+        return Answer::Refused(nodes::refusal_number(answer), nodes::refusal_place(answer));
+    };
+    if nodes::place(end) < rows.len() / 8 {
+        return Answer::Refused(16, 0);
+    }
+    Answer::Accepted(nodes::count(end))
+}
 
 // The test of whole rows by a walk: 16, or the number of their flags, which the scratch table then begins with.
 pub(crate) fn test_all(l: Limits, root: Node, rows: &[u8], scratch: &mut Scratch) -> Answer
@@ -26,7 +63,7 @@ pub(crate) fn test_all(l: Limits, root: Node, rows: &[u8], scratch: &mut Scratch
     // A root is above all cuts, as a child of a quad split is, and may reach past the picture.
     let kept = nodes::kept_under(&u, row, 0, true, Decision::Quad, 0);
     let answer = back::node_back(&u, rows, scratch, 0, row, kept);
-    deliver::walk_end(answer, rows)
+    walk_end(answer, rows)
 }
 
 // The test of a table, refusals 15 and 16; a root that is a leaf needs no walk.
@@ -37,8 +74,8 @@ fn test_rows(l: Limits, root: Node, rows: &[u8]) -> Answer
     if rows.len() % 8 != 0 {
         return Answer::Refused(15, rows.len() / 8);
     }
-    if deliver::is_leaf(l, root, rows) {
-        return Answer::Accepted(deliver::leaf_count(splits::open_splits(l, root)));
+    if is_leaf(l, root, rows) {
+        return Answer::Accepted(leaf_count(splits::open_splits(l, root)));
     }
     let mut scratch = [0u8; 8192];
     test_all(l, root, rows, &mut scratch)

@@ -72,8 +72,9 @@ fn on_unit(
     lent: &mut [u8],
 ) -> [u64; 2] {
     let mut answer = [0; 2];
-    // SAFETY: each pointer comes with its own length or fixed size, and the borrows keep the lent
-    // memory apart and alive during the call.
+    // SAFETY: `function` is one of the engine's, which touches no more than it is lent; each pointer
+    // comes with its own length or fixed size, and the borrows keep the lent memory apart and alive
+    // during the call.
     unsafe {
         function(
             settings.as_ptr(),

@@ -1,13 +1,14 @@
 //! Compares the engine with two unproved decoders, call by call: `h266`, written from the text of
 //! the standard, and `tuned`.
 //!
-//! Each comparison makes the same call on all three sides, with equal buffers of random bytes
+//! Each comparison makes the same call on all sides, with equal buffers of random bytes
 //! between guard bytes, and asserts that the answers, the buffers, the guards and the session's
 //! address due are equal afterwards, that the rows written stay in pipeline units and come one such
 //! unit after the other, and that there are no more flags than is planned. The calls come from
 //! random legal trees, damaged flags and tables, every width and height at the edges, broken
 //! settings, lent buffers of every kind of length, whole sessions, small units in full, and the
-//! units with the most flags. Every table is also printed as a page, which `tuned` does not have.
+//! units with the most flags. Tables, damaged ones too, are also printed as pages, which `tuned`
+//! does not have.
 //!
 //! `h266` shares nothing with the engine. `tuned` takes from `h266` the check of the settings and the
 //! rules of open splits, and so does the generator of trees; trees are also drawn from random flags,

@@ -30,8 +30,8 @@ impl Command for Page {
     /// The rows of an accepted unit are those of a tree, so they have a page.
     fn unit(&mut self, unit: &Unit<'_>, context: &mut Context<'_>) -> io::Result<()> {
         let Some(settings) = &self.settings else { return Ok(()) };
-        let count =
-            page(settings, unit.address, unit.rows, &mut self.lent).map_err(io::Error::other)?;
+        let count = page(settings, unit.address, unit.rows, &mut self.lent)
+            .expect("an accepted unit has a page");
         context.out.write_all(&self.lent[..count])
     }
 

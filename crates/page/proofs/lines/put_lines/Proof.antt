@@ -6,7 +6,7 @@ use lib.ListN.{length}
 use denote.Ref.{now}
 use Rattle.tree.specs.Rows.{rowAt}
 use Rattle.laws.specs.Geometry.{SmallRow}
-use Rattle.page.proofs.Fitting.{small-line-long}
+use Rattle.page.proofs.Fitting.{line-long}
 use Rattle.page.proofs.Stores.{row-has, Begun, begun-none, as-line, begun-next}
 use Rattle.page.proofs.lines.put_lines.Statement.{statement}
 use Rattle.page.proofs.lines.put_lines.Tie as tie
@@ -55,7 +55,7 @@ loop-again c =
     let k = l .before .loop .k in
     let i = l .before .loop .inv in
     let line-is = as-line address (x .six .result) (rowAt bytes (k * 8)) (k * 33) (l .before .loop .page) (x .six .ensures) (p .put-line .ensures) in
-    (omega arith, begun-next address bytes k (i .1) (small-line-long address (s .pre .0) (small-row l)) (omega arith) line-is, p .put-line .kept .0 ∙ i .2)
+    (omega arith, begun-next address bytes k (i .1) (line-long address (s .pre .0) (small-row l)) (omega arith) line-is, p .put-line .kept .0 ∙ i .2)
 
 same-length : tie.Need-same-length Inv-loop μ-loop
 same-length c = c .before .loop .inv .2

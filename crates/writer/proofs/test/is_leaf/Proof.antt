@@ -2,8 +2,8 @@ use mathlib.Core.Path.{sym, _∙_}
 use borrow.Author.Tests.{eq-eqb, ne-eqb}
 use borrow.Author.Needs.{needs}
 use Rattle.writer.proofs.Alone.{own-row}
-use Rattle.writer.proofs.deliver.is_leaf.Statement.{statement}
-use Rattle.writer.proofs.deliver.is_leaf.Tie as tie
+use Rattle.writer.proofs.test.is_leaf.Statement.{statement}
+use Rattle.writer.proofs.test.is_leaf.Tie as tie
 
 returns : tie.Need-returns
 returns c = rw (ne-eqb _ _ (c .if1 .taken))

@@ -1,7 +1,7 @@
 use borrow.Author.Needs.{needs}
 use Rattle.writer.proofs.Ends.{leaf-one, leaf-zero}
-use Rattle.writer.proofs.deliver.leaf_count.Statement.{statement}
-use Rattle.writer.proofs.deliver.leaf_count.Tie as tie
+use Rattle.writer.proofs.test.leaf_count.Statement.{statement}
+use Rattle.writer.proofs.test.leaf_count.Tie as tie
 
 some-open-requires : tie.Need-some-open-requires
 some-open-requires c κs = search needs

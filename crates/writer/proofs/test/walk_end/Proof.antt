@@ -1,8 +1,8 @@
 use borrow.Author.Needs.{needs}
 use denote.Ref.{now}
 use Rattle.writer.proofs.Ends.{end-stop, end-left, end-all}
-use Rattle.writer.proofs.deliver.walk_end.Statement.{statement}
-use Rattle.writer.proofs.deliver.walk_end.Tie as tie
+use Rattle.writer.proofs.test.walk_end.Statement.{statement}
+use Rattle.writer.proofs.test.walk_end.Tie as tie
 
 taken-apart-requires : tie.Need-taken-apart-requires
 taken-apart-requires c κs = search needs

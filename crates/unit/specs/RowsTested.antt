@@ -1,0 +1,23 @@
+-- The way back's test of a unit's rows, which other calls share: what it refuses, and what it accepts.
+use Prim.Native.Nat.{ℕ}
+use mathlib.Core.Path.{_≡_}
+use mathlib.Core.List.{List}
+use lib.ListN.{length}
+use Rattle.settings.specs.declared.Settings.{Settings}
+use Rattle.tree.specs.Rows.{tableBytes}
+use Rattle.tree.specs.Tree.{flagsOf, rowsOf}
+use Rattle.unit.specs.declared.Answer.the-variants.{Accepted}
+use Rattle.unit.specs.Answers.{answerOf}
+use Rattle.unit.specs.Writer.{testUnit}
+use Rattle.unit.specs.Exactly.{UnitTree, Bytes}
+use Rattle.unit.specs.Faults.{RowsFault, rowsNumbers, Decides}
+
+pub record TestsExactly (s : Settings) (a : ℕ) (bytes : List ℕ) : Type 0 where
+  -- it is decided by the faults of the rows; it is lent nothing
+  pub decided : Decides {Lent = Unit {0}} (RowsFault s a bytes) rowsNumbers (answerOf (testUnit s a bytes)) tt tt
+  -- rows that it accepts are those of a coding tree, and it answers the number of the tree's flags
+  pub counts : (m : ℕ) → answerOf (testUnit s a bytes) ≡ Accepted m
+      → (t : UnitTree s a) × (tableBytes (rowsOf t) ≡ bytes) × (length (flagsOf t) ≡ m)
+
+abbrev pub RowsTested : Type 0
+RowsTested = (s : Settings) (a : ℕ) (bytes : List ℕ) → Bytes bytes → TestsExactly s a bytes
