@@ -6,7 +6,7 @@ ghost use Rattle.page.specs.Text.{firstTwo, lastFour, fourDigits, fourMa
 
 // The last four digits.
 fn four_digits(n: u32) -> u32
-    ensures { λ r. ⌜ (r ≡ fourDigits n) × (r < 151587082) ⌝ }
+    ensures { λ r. ⌜ (r ≡ fourDigits n) × (r ≤ 0x09090909) ⌝ }
 {
     let tens = n / 10;
     let hundreds = n / 100;
@@ -19,7 +19,7 @@ fn four_digits(n: u32) -> u32
 
 // What makes characters of them: 48 for a digit, or a space for a zero in front of the first one.
 fn four_marks(n: u32) -> u32
-    ensures { λ r. ⌜ (r ≡ fourMarks n) × (r < 808464433) ⌝ }
+    ensures { λ r. ⌜ (r ≡ fourMarks n) × (r ≤ 0x30303030) ⌝ }
 {
     if n < 10 {
         return 0x30202020;
@@ -62,7 +62,7 @@ pub(crate) fn six(n: u32) -> u64
     first_two(n) as u64 + last_four(n) as u64 * 65536
 }
 
-// A side of a row, 4 to 128, in 4 columns, from its exponent.
+// A side of a row, 4 to 128, in 4 columns, from its exponent: 0x36312020 is two spaces, a 1 and a 6.
 pub(crate) fn side(exponent: u8) -> u32
     requires { ⌜ (2 ≤ exponent) × (exponent < 8) ⌝ }
     ensures { λ r. ⌜ fourBytes r ≡ column 4 (2 ^ exponent) ⌝ }
