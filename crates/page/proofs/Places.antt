@@ -1,11 +1,13 @@
 -- Characters as the bytes of one number.
 use Prim.Native.Nat.{ℕ, _+_, _-_, _*_, _/_, _%_, _≤_, _<_}
 use mathlib.Core.Path.{_≡_, sym, ap, ap₂, _∙_}
-use mathlib.Core.List.{[], _∷_, _++_}
+use mathlib.Core.List.{List, [], _∷_, _++_}
 use native.Mathlib.Omega.{arith}
 use native.Mathlib.Nat.{div-div-eq-div-mul}
 use native.Mathlib.Decide.{decLt}
-use lib.ListN.{drop}
+use native.Mathlib.Numerals.{towards-suc}
+use lib.ListN.{drop, set}
+use lib.Seq.{sets}
 use borrow.Author.Tests.{lt-ltb, le-ltb}
 use Rattle.page.specs.Lines.{column}
 use Rattle.page.specs.Text.{firstTwo, lastFour, fourDigits, fourMarks, twoBytes, fourBytes, sixBytes}
@@ -83,6 +85,29 @@ six-bytes f l h =
     let p₁ : n / 256 ≡ f / 256 + l * 256 = omega arith in
     let l₁ : (f / 256 + l * 256) % 256 ≡ f / 256 % 256 = omega arith in
     rw (p₁, p₂, p₃, p₄, p₅, l₀, l₁)
+
+-- the last four of six bytes are those of the number without its two lowest
+low-four : (m : ℕ) → fourBytes (m % 4294967296) ≡ fourBytes m
+low-four m = go (m % 4294967296) (m / 4294967296) (omega arith)
+  where
+    go : (r q : ℕ) → m ≡ r + q * 4294967296 → fourBytes r ≡ fourBytes m
+    go r q e =
+        let p₁ : m / 256 ≡ r / 256 + q * 16777216 = omega arith in
+        let p₂ : m / 65536 ≡ r / 65536 + q * 65536 = omega arith in
+        let p₃ : m / 16777216 ≡ r / 16777216 + q * 256 = omega arith in
+        let l₀ : m % 256 ≡ r % 256 = omega arith in
+        let l₁ : (r / 256 + q * 16777216) % 256 ≡ r / 256 % 256 = omega arith in
+        let l₂ : (r / 65536 + q * 65536) % 256 ≡ r / 65536 % 256 = omega arith in
+        let l₃ : (r / 16777216 + q * 256) % 256 ≡ r / 16777216 % 256 = omega arith in
+        rw (p₁, p₂, p₃, l₀, l₁, l₂, l₃)
+
+six-split : (t : ℕ) → twoBytes t ++ fourBytes (t / 65536 % 4294967296) ≡ sixBytes t
+six-split t = rw (low-four (t / 65536), div-div-eq-div-mul t 65536 256, div-div-eq-div-mul t 65536 65536, div-div-eq-div-mul t 65536 16777216)
+
+-- two stores, and four
+pub six-stored : (b : List ℕ) (at t : ℕ) {out : List ℕ}
+    → out ≡ sets (set (set b at (t % 256)) (at + 1) (t / 256 % 256)) (at + 2) (fourBytes (t / 65536 % 4294967296)) → out ≡ sets b at (sixBytes t)
+six-stored b at t e = e ∙ simp towards-suc (ap (sets b at) (six-split t))
 
 pub six-columns : (n f l : ℕ) → n < 1000000 → f < 65536 → twoBytes f ≡ firstTwo n → fourBytes l ≡ lastFour n → sixBytes (f + l * 65536) ≡ column 6 n
 six-columns n f l h g two last = six-bytes f l g ∙ ap₂ (λ a b. a ++ b) two last ∙ sym (column-six n h)

@@ -5,7 +5,18 @@ ghost use Prim.Native.Nat.{_+_, _^_, _≤_, _<_};
 ghost use lib.ListN.{length};
 ghost use lib.Seq.{sets};
 ghost use Rattle.page.specs.Lines.{column};
-ghost use Rattle.page.specs.Text.{sixBytes};
+ghost use Rattle.page.specs.Text.{fourBytes, sixBytes};
+
+// Four characters.
+fn put_four(page: &mut [u8], at: usize, text: u32)
+    requires { ⌜ at + 4 ≤ length (now page) ⌝ }
+    ensures { λ _. ⌜ now (page .exit) ≡ sets (now (page .entry)) at (fourBytes text) ⌝ }
+{
+    page[at] = (text % 256) as u8;
+    page[at + 1] = (text / 256 % 256) as u8;
+    page[at + 2] = (text / 65536 % 256) as u8;
+    page[at + 3] = (text / 16777216 % 256) as u8;
+}
 
 // The characters of a text in 6 columns.
 pub(crate) fn put_six(page: &mut [u8], at: usize, text: u64)
@@ -14,10 +25,7 @@ pub(crate) fn put_six(page: &mut [u8], at: usize, text: u64)
 {
     page[at] = (text % 256) as u8;
     page[at + 1] = (text / 256 % 256) as u8;
-    page[at + 2] = (text / 65536 % 256) as u8;
-    page[at + 3] = (text / 16777216 % 256) as u8;
-    page[at + 4] = (text / 4294967296 % 256) as u8;
-    page[at + 5] = (text / 1099511627776 % 256) as u8;
+    put_four(page, at + 2, (text / 65536 % 4294967296) as u32);
 }
 
 // A side in 4 columns, from its exponent.
@@ -25,11 +33,7 @@ pub(crate) fn put_side(page: &mut [u8], at: usize, exponent: u8)
     requires { ⌜ (at + 4 ≤ length (now page)) × (2 ≤ exponent) × (exponent < 8) ⌝ }
     ensures { λ _. ⌜ now (page .exit) ≡ sets (now (page .entry)) at (column 4 (2 ^ exponent)) ⌝ }
 {
-    let text = text::side(exponent);
-    page[at] = (text % 256) as u8;
-    page[at + 1] = (text / 256 % 256) as u8;
-    page[at + 2] = (text / 65536 % 256) as u8;
-    page[at + 3] = (text / 16777216 % 256) as u8;
+    put_four(page, at, text::side(exponent));
 }
 
 // A depth in 3 columns. Most have one digit, and are written at once.

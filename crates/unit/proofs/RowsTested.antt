@@ -13,7 +13,7 @@ use Rattle.unit.specs.Faults.{RowsFault, rowsNumbers}
 use Rattle.unit.specs.RowsTested.{RowsTested}
 use Rattle.unit.proofs.Accepts.{answer-stops, answer-goes}
 use Rattle.unit.proofs.Decided.{decides, same-fault, rows-listed}
-use Rattle.unit.proofs.Tested.{Tested, faulty, passed, tested, passes, table-of, fault-stops}
+use Rattle.unit.proofs.Tested.{Tested, faulty, passed, tree-tested, tested, passes, table-of, fault-stops}
 
 module _ (s : Settings) (a : ℕ) (bytes : List ℕ) where
   -- the fault of a refusal
@@ -39,6 +39,7 @@ module _ (s : Settings) (a : ℕ) (bytes : List ℕ) where
 pub rows-tested : RowsTested
 rows-tested s a bytes small = record {
   decided = decides (RowsFault s a bytes) rowsNumbers (fault-of s a bytes) (refused-for s a bytes small) (λ number place f. rows-listed s a f);
+  tests = λ h t e. rw (← e, tree-tested s a h t);
   counts = λ m e.
       let p = passes s a bytes e in
       let g = p .gives-flags in

@@ -4,6 +4,7 @@ use mathlib.Core.Path.{_≡_}
 use mathlib.Core.List.{List}
 use lib.ListN.{length}
 use Rattle.settings.specs.declared.Settings.{Settings}
+use Rattle.settings.specs.Units.{unitRefusal}
 use Rattle.tree.specs.Rows.{tableBytes}
 use Rattle.tree.specs.Tree.{flagsOf, rowsOf}
 use Rattle.unit.specs.declared.Answer.the-variants.{Accepted}
@@ -15,7 +16,10 @@ use Rattle.unit.specs.Faults.{RowsFault, rowsNumbers, Decides}
 pub record TestsExactly (s : Settings) (a : ℕ) (bytes : List ℕ) : Type 0 where
   -- it is decided by the faults of the rows; it is lent nothing
   pub decided : Decides {Lent = Unit {0}} (RowsFault s a bytes) rowsNumbers (answerOf (testUnit s a bytes)) tt tt
-  -- rows that it accepts are those of a coding tree, and it answers the number of the tree's flags
+  -- of a unit that passes 1 to 10, it accepts the rows of every coding tree, and answers the number of the tree's flags
+  pub tests : unitRefusal s a ≡ 0 → (t : UnitTree s a) → tableBytes (rowsOf t) ≡ bytes
+      → answerOf (testUnit s a bytes) ≡ Accepted (length (flagsOf t))
+  -- it accepts no other rows
   pub counts : (m : ℕ) → answerOf (testUnit s a bytes) ≡ Accepted m
       → (t : UnitTree s a) × (tableBytes (rowsOf t) ≡ bytes) × (length (flagsOf t) ≡ m)
 

@@ -1,7 +1,8 @@
 use native.Mathlib.Omega.{arith}
-use native.Mathlib.Numerals.{towards-suc}
 use lib.ListN.{length-set}
+use denote.Ref.{now}
 use borrow.Author.Needs.{needs}
+use Rattle.page.proofs.Places.{six-stored}
 use Rattle.page.proofs.columns.put_six.Statement.{statement}
 use Rattle.page.proofs.columns.put_six.Tie as tie
 
@@ -20,47 +21,22 @@ add-page c = search needs
 slice-write-page-2 : tie.Need-slice-write-page-2
 slice-write-page-2 c = simp length-set (omega arith)
 
-cast-page-3 : tie.Need-cast-page-3
-cast-page-3 c = search needs
+add-put-four : tie.Need-add-put-four
+add-put-four c = search needs
 
-add-page-2 : tie.Need-add-page-2
-add-page-2 c = search needs
+cast-put-four : tie.Need-cast-put-four
+cast-put-four c = search needs
 
-slice-write-page-3 : tie.Need-slice-write-page-3
-slice-write-page-3 c = simp length-set (omega arith)
-
-cast-page-4 : tie.Need-cast-page-4
-cast-page-4 c = search needs
-
-add-page-3 : tie.Need-add-page-3
-add-page-3 c = search needs
-
-slice-write-page-4 : tie.Need-slice-write-page-4
-slice-write-page-4 c = simp length-set (omega arith)
-
-cast-page-5 : tie.Need-cast-page-5
-cast-page-5 c = search needs
-
-add-page-4 : tie.Need-add-page-4
-add-page-4 c = search needs
-
-slice-write-page-5 : tie.Need-slice-write-page-5
-slice-write-page-5 c = simp length-set (omega arith)
-
-cast-page-6 : tie.Need-cast-page-6
-cast-page-6 c = search needs
-
-add-page-5 : tie.Need-add-page-5
-add-page-5 c = search needs
-
-slice-write-page-6 : tie.Need-slice-write-page-6
-slice-write-page-6 c = simp length-set (omega arith)
+put-four-requires : tie.Need-put-four-requires
+put-four-requires c κs = simp length-set (omega arith)
 
 same-length : tie.Need-same-length
-same-length c = search needs
+same-length c = simp length-set at (c .before .before .put-four .kept .0)
 
 returns : tie.Need-returns
-returns c = simp towards-suc
+returns c =
+    let a = c .before .before .before .before .before .args in
+    six-stored (now (a .page)) (a .at) (a .text) (c .before .before .put-four .ensures)
 
 pub put-six-spec : {M : Type 1} → statement M
 put-six-spec =
@@ -71,17 +47,8 @@ put-six-spec =
     cast-page-2
     add-page
     slice-write-page-2
-    cast-page-3
-    add-page-2
-    slice-write-page-3
-    cast-page-4
-    add-page-3
-    slice-write-page-4
-    cast-page-5
-    add-page-4
-    slice-write-page-5
-    cast-page-6
-    add-page-5
-    slice-write-page-6
+    add-put-four
+    cast-put-four
+    put-four-requires
     same-length
     returns)
