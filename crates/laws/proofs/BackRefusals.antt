@@ -1,19 +1,18 @@
 -- A way back refuses with 16 and place 0 only, however many levels are left.
 use Prim.Native.Nat.{ℕ, zero, suc}
 use mathlib.Core.Path.{_≡_, refl}
-use mathlib.Core.Bool.{Bool, true, false, cond}
+use mathlib.Core.Bool.{Bool, true, false}
 use mathlib.Core.List.{List, [], _∷_}
 use Rattle.tree.specs.declared.Node.{Node}
 use Rattle.tree.specs.declared.Decision.{Decision}
 use Rattle.tree.specs.declared.Decision.the-variants.{Leaf, Quad, Binary, Ternary}
 use Rattle.tree.specs.Kind.{Kind}
 use Rattle.tree.specs.Splits.{rightsOf, allows}
-use Rattle.tree.specs.Flags.{flagsFor}
 use Rattle.tree.specs.Children.{children}
-use Rattle.tree.specs.Rows.{Row, rowOf}
+use Rattle.tree.specs.Rows.{Row}
 use Rattle.tree.specs.Run.{End, goes, stops, Run, before, overAll}
-use Rattle.tree.specs.Back.{decisionFrom, sameRow, noFlags, backInto, backWith, back}
-use Rattle.laws.proofs.Runs.{gives, over-end}
+use Rattle.tree.specs.Back.{decisionFrom, backInto, backWith, back}
+use Rattle.laws.proofs.Runs.{over-end}
 use Rattle.laws.proofs.Parts.{every-child}
 use Rattle.laws.proofs.Backs.{with-open, with-closed}
 
@@ -27,11 +26,7 @@ module _ (k : Kind) where
       (below : (d : Decision) → BackFine (overAll (k .limits) step (children (k .limits) n d) (r ∷ rows) .end)) where
     into-fine : (d : Decision) → BackFine (backInto k n step r rows d .end)
     unfolding backInto before
-    into-fine Leaf = own (sameRow r (rowOf n))
-      where
-        own : (same : Bool) → BackFine (cond same (gives (flagsFor (rightsOf k n) Leaf) rows) noFlags .end)
-        own true = tt
-        own false = (refl, refl)
+    into-fine Leaf = tt
     into-fine Quad = below Quad
     into-fine (Binary d) = below (Binary d)
     into-fine (Ternary d) = below (Ternary d)

@@ -11,9 +11,9 @@ use Rattle.tree.specs.Kind.{Kind}
 use Rattle.tree.specs.Splits.{rightsOf, allows}
 use Rattle.tree.specs.Flags.{flagsFor}
 use Rattle.tree.specs.Children.{child, children}
-use Rattle.tree.specs.Rows.{Row, rowOf}
+use Rattle.tree.specs.Rows.{Row}
 use Rattle.tree.specs.Run.{goes, Run, before, overAll}
-use Rattle.tree.specs.Back.{decisionFrom, sameRow, noFlags, backSplit, backInto, backWith, back, backNode}
+use Rattle.tree.specs.Back.{decisionFrom, noFlags, backSplit, backInto, backWith, back, backNode}
 use Rattle.laws.proofs.Tests.{never}
 use Rattle.laws.proofs.Parts.{every-child}
 use Rattle.laws.proofs.Steps.{isSplit, over-same, kid-depth}
@@ -44,15 +44,10 @@ module _ (k : Kind) (n : Node) (deep : n .qt + n .mtt < 256) where
     into : {d : Decision} → decisionFrom (k .limits) n r rows ≡ d → allows (rightsOf k n) d ≡ true → backNode k n (r ∷ rows) ≡ backInto k n below r rows d
     into {d} e ok = level ∙ rw e (with-open k n below r rows d ok)
 
-    -- a leaf that takes its row, and one before a row that is not its own
-    pub back-leaf : decisionFrom (k .limits) n r rows ≡ Leaf → allows (rightsOf k n) Leaf ≡ true → sameRow r (rowOf n) ≡ true
-        → backNode k n (r ∷ rows) ≡ record { given = flagsFor (rightsOf k n) Leaf; end = goes rows }
+    -- a leaf takes its row
+    pub back-leaf : decisionFrom (k .limits) n r rows ≡ Leaf → allows (rightsOf k n) Leaf ≡ true → backNode k n (r ∷ rows) ≡ record { given = flagsFor (rightsOf k n) Leaf; end = goes rows }
     unfolding backInto
-    back-leaf e ok own = into e ok ∙ rw own
-
-    pub back-other : decisionFrom (k .limits) n r rows ≡ Leaf → allows (rightsOf k n) Leaf ≡ true → sameRow r (rowOf n) ≡ false → backNode k n (r ∷ rows) ≡ noFlags
-    unfolding backInto
-    back-other e ok other = into e ok ∙ rw other
+    back-leaf e ok = into e ok
 
     into-split : (d : Decision) → isSplit d ≡ true → backInto k n below r rows d ≡ backSplit k n below (r ∷ rows) d
     unfolding backInto

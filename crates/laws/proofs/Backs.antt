@@ -1,7 +1,7 @@
 -- The way back and the coding trees belong together, both ways: it turns the rows of trees into their flags, and what it gives comes from trees.
 use Prim.Native.Nat.{ℕ, zero, suc, _≤_}
 use mathlib.Core.Path.{_≡_, refl, sym, ap, _∙_}
-use mathlib.Core.Bool.{Bool, true, false, cond}
+use mathlib.Core.Bool.{Bool, true, false}
 use mathlib.Core.List.{List, [], _∷_, _++_, append-nil, append-assoc}
 use native.Mathlib.Omega.{arith}
 use Rattle.tree.specs.declared.Node.{Node}
@@ -11,18 +11,19 @@ use Rattle.tree.specs.Kind.{Kind}
 use Rattle.tree.specs.Splits.{rightsOf, allows}
 use Rattle.tree.specs.Flags.{flagsFor}
 use Rattle.tree.specs.Children.{shares, childrenFrom, children, cornerInside}
-use Rattle.tree.specs.Rows.{Row, rowOf, ownRows}
+use Rattle.tree.specs.Rows.{Row, ownRows}
 use Rattle.tree.specs.Run.{goes, Run, before, goOn, overAll}
-use Rattle.tree.specs.Back.{decisionFrom, sameRow, noFlags, backSplit, backInto, backWith, back}
+use Rattle.tree.specs.Back.{decisionFrom, noFlags, backSplit, backInto, backWith, back}
 use Rattle.tree.specs.Tree.{Trees, Tree, none, skip, node, flagsOf, rowsOf}
 use Rattle.laws.proofs.Tests.{never}
 use Rattle.laws.specs.Every.{Every, every-none, every-more}
+use Rattle.laws.specs.Proper.{Proper}
+use Rattle.laws.specs.Shape.{Shape}
 use Rattle.laws.proofs.Runs.{gives, joined, over-here, over-gone, over-one}
 use Rattle.laws.proofs.Walks.{levels}
-use Rattle.laws.proofs.Shape.{Shape, shape-kids}
+use Rattle.laws.proofs.Shape.{shape-kids}
 use Rattle.laws.proofs.First.{First, first-longer, first-row}
-use Rattle.laws.proofs.Decisions.{decision-found}
-use Rattle.laws.proofs.SameRow.{same-self, same-row}
+use Rattle.laws.proofs.Decisions.{leaf-own, decision-found}
 
 -- the way back over nodes, so many levels deep
 abbrev pub backAll : Kind → ℕ → List Node → List Row → Run ℕ (List Row)
@@ -49,15 +50,12 @@ module _ (k : Kind) (n : Node) (step : Node → List Row → Run ℕ (List Row))
       → overAll (k .limits) step (children (k .limits) n d) (rowsOf kids ++ more) ≡ gives (flagsOf kids) more → (ownRows n d ++ rowsOf kids) ++ more ≡ r ∷ rows
       → backInto k n step r rows d ≡ gives (flagsFor (rightsOf k n) d ++ flagsOf kids) more
   unfolding backInto ownRows children childrenFrom shares rowsOf flagsOf
-  into-complete Leaf none more r rows w e =
-      let a : rowOf n ≡ r = cc in
-      let b : more ≡ rows = cc in
-      rw (← a, ← b, same-self (rowOf n), append-nil)
+  into-complete Leaf none more r rows w e = let b : more ≡ rows = cc in rw (← b, append-nil)
   into-complete Quad kids more r rows w e = split-complete Quad (r ∷ rows) (rw (← e) w)
   into-complete (Binary d) kids more r rows w e = split-complete (Binary d) (r ∷ rows) (rw (← e) w)
   into-complete (Ternary d) kids more r rows w e = split-complete (Ternary d) (r ∷ rows) (rw (← e) w)
 
-module _ (k : Kind) (cb : 4 ≤ k .limits .mincb) (qt : 4 ≤ k .limits .minqt) where
+module _ {k : Kind} (v : Proper k) where
   first-node : (n : Node) (d : Decision) → cornerInside (k .limits) n ≡ true → allows (rightsOf k n) d ≡ true → (kids : Trees k (children (k .limits) n d)) → First n (ownRows n d ++ rowsOf kids)
   unfolding rowsOf
   first-node n d here ok kids = rw append-nil at (first-row (node {n = n} {ns = []} d here ok kids none) here)
@@ -70,7 +68,7 @@ module _ (k : Kind) (cb : 4 ≤ k .limits .mincb) (qt : 4 ≤ k .limits .minqt) 
       let f = first-longer more (first-node n d here ok kids) in
       let e = f .is in
       rw e
-      (rw (decision-found k cb qt n sh here more (f .row) (f .others) d ok kids e, with-open k n (back deep k) (f .row) (f .others) d ok)
+      (rw (decision-found v n sh here more (f .row) (f .others) d ok kids e, with-open k n (back deep k) (f .row) (f .others) d ok)
       (into-complete k n (back deep k) d kids more (f .row) (f .others) w e))
 
   all-complete : (deep : ℕ) {ns : List Node} (t : Trees k ns) → Every Shape ns → levels t ≤ deep → (more : List Row) → backAll k deep ns (rowsOf t ++ more) ≡ gives (flagsOf t) more
@@ -79,7 +77,7 @@ module _ (k : Kind) (cb : 4 ≤ k .limits .mincb) (qt : 4 ≤ k .limits .minqt) 
   all-complete deep (skip {n = n} {ns = ns} out rest) (every-more sh shs) h more = over-gone k (back deep k) n ns (rowsOf rest ++ more) out ∙ all-complete deep rest shs h more
   all-complete zero (node d here ok kids rest) (every-more sh shs) h more = absurd (omega arith)
   all-complete (suc deep) (node {n = n} {ns = ns} d here ok kids rest) (every-more sh shs) h more =
-      let a = all-complete deep kids (shape-kids k n cb qt sh d ok) (omega arith) (rowsOf rest ++ more) in
+      let a = all-complete deep kids (shape-kids v sh d ok) (omega arith) (rowsOf rest ++ more) in
       let b = all-complete (suc deep) rest shs (omega arith) more in
       rw (append-assoc (ownRows n d ++ rowsOf kids) (rowsOf rest) more)
       (over-here k (back (suc deep) k) n ns ((ownRows n d ++ rowsOf kids) ++ (rowsOf rest ++ more)) here
@@ -148,24 +146,21 @@ module _ (k : Kind) where
         let t = below d (r ∷ rows) rest e in
         record { d = d; ok = ok; kids = t .trees; said = rw (t .said); split = t .split ∙ rw own }
 
-    into-sound : (d : Decision) → allows (rightsOf k n) d ≡ true → backInto k n step r rows d .end ≡ goes rest → Sprout n (r ∷ rows) (backInto k n step r rows d .given) rest
+    into-sound : (d : Decision) → decisionFrom (k .limits) n r rows ≡ d → allows (rightsOf k n) d ≡ true → backInto k n step r rows d .end ≡ goes rest
+        → Sprout n (r ∷ rows) (backInto k n step r rows d .given) rest
     unfolding backInto ownRows children childrenFrom shares rowsOf flagsOf
-    into-sound Leaf ok e = go (sameRow r (rowOf n)) refl e
-      where
-        go : (b : Bool) → sameRow r (rowOf n) ≡ b → cond b (gives (flagsFor (rightsOf k n) Leaf) rows) noFlags .end ≡ goes rest
-            → Sprout n (r ∷ rows) (cond b (gives (flagsFor (rightsOf k n) Leaf) rows) noFlags .given) rest
-        go true s e =
-            let a = same-row r (rowOf n) s in
-            let b : rows ≡ rest = cc in
-            record { d = Leaf; ok = ok; kids = none; said = append-nil (flagsFor (rightsOf k n) Leaf); split = rw (a, b) }
-        go false s e = never (cc)
-    into-sound Quad ok e = split-sound Quad ok refl e
-    into-sound (Binary d) ok e = split-sound (Binary d) ok refl e
-    into-sound (Ternary d) ok e = split-sound (Ternary d) ok refl e
+    into-sound Leaf i ok e =
+        let a = leaf-own (k .limits) n r rows i in
+        let b : rows ≡ rest = cc in
+        record { d = Leaf; ok = ok; kids = none; said = append-nil (flagsFor (rightsOf k n) Leaf); split = rw (a, b) }
+    into-sound Quad i ok e = split-sound Quad ok refl e
+    into-sound (Binary d) i ok e = split-sound (Binary d) ok refl e
+    into-sound (Ternary d) i ok e = split-sound (Ternary d) ok refl e
 
-    with-sound : (d : Decision) (b : Bool) → allows (rightsOf k n) d ≡ b → backWith k n step r rows d .end ≡ goes rest → Sprout n (r ∷ rows) (backWith k n step r rows d .given) rest
-    with-sound d true ok e = rw (with-open k n step r rows d ok) (into-sound d ok (rw (with-open k n step r rows d ok) at e))
-    with-sound d false no-right e = let h = with-closed k n step r rows d no-right in never (cc)
+    with-sound : (d : Decision) → decisionFrom (k .limits) n r rows ≡ d → (b : Bool) → allows (rightsOf k n) d ≡ b → backWith k n step r rows d .end ≡ goes rest
+        → Sprout n (r ∷ rows) (backWith k n step r rows d .given) rest
+    with-sound d i true ok e = rw (with-open k n step r rows d ok) (into-sound d i ok (rw (with-open k n step r rows d ok) at e))
+    with-sound d i false no-right e = let h = with-closed k n step r rows d no-right in never (cc)
 
   node-sound : (deep : ℕ) (n : Node) (rows rest : List Row) → back deep k n rows .end ≡ goes rest → Sprout n rows (back deep k n rows .given) rest
   unfolding back
@@ -173,7 +168,7 @@ module _ (k : Kind) where
   node-sound (suc deep) n [] rest e = never (cc)
   node-sound (suc deep) n (r ∷ rows) rest e =
       with-sound n (back deep k) (λ d. all-sound (back deep k) (node-sound deep) (children (k .limits) n d)) r rows rest
-      (decisionFrom (k .limits) n r rows) _ refl e
+      (decisionFrom (k .limits) n r rows) refl _ refl e
 
   -- whatever the rows are
   pub back-sound : (deep : ℕ) (n : Node) → cornerInside (k .limits) n ≡ true → (rows rest : List Row) → back deep k n rows .end ≡ goes rest → Found (n ∷ []) rows (back deep k n rows .given) rest

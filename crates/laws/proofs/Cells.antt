@@ -16,12 +16,15 @@ use Rattle.tree.specs.Rows.{rowOf}
 use Rattle.tree.specs.Tree.{Tree, rowsOf}
 use Rattle.laws.specs.Geometry.{InOneCell}
 use Rattle.laws.specs.Every.{Every, every-none, every-more}
+use Rattle.laws.specs.Proper.{Proper}
+use Rattle.laws.specs.Directions.{corner}
+use Rattle.laws.specs.Multiples.{Multiple, Fold}
+use Rattle.laws.specs.Shape.{Shape}
 use Rattle.laws.proofs.Leaves.{leaf-start, leaf-side}
 use Rattle.laws.proofs.EveryRow.{every-row}
-use Rattle.laws.proofs.Directions.{corner}
-use Rattle.laws.proofs.Multiples.{Multiple, Fold, fold-least, power-fold}
+use Rattle.laws.proofs.Multiples.{fold-least, power-fold}
 use Rattle.laws.proofs.Parts.{every-child, child-corner, child-end}
-use Rattle.laws.proofs.Shape.{Shape, side-four, shape-child}
+use Rattle.laws.proofs.Shape.{side-four, shape-child}
 
 -- ---- a length inside one cell
 
@@ -66,9 +69,9 @@ small-in-one {c} {n} f sh at le = record { shape = sh; cell = λ e. go (larger-f
     go : {a s : ℕ} → Fold s c → 4 ≤ s → Multiple s a → InCell c a s
     go {s = s} g h m = rw (g .is, m .is) (same-cell s (2 ^ g .power) (m .times) (omega arith))
 
-module _ (k : Kind) (cb : 4 ≤ k .limits .mincb) (qt : 4 ≤ k .limits .minqt) (c : ℕ) (pos : 0 < c) where
+module _ {k : Kind} (v : Proper k) (c : ℕ) (pos : 0 < c) where
   pub one-kids : (n : Node) → InOne c n → (d : Decision) → allows (rightsOf k n) d ≡ true → Every (InOne c) (children (k .limits) n d)
-  one-kids n i d ok = every-child k n d (λ p piece. let sh = shape-child k n cb qt (i .shape) d ok p piece in record {
+  one-kids n i d ok = every-child k n d (λ p piece. let sh = shape-child v (i .shape) d ok p piece in record {
     shape = sh;
     cell = λ e.
         let a = child-corner (k .limits) n d p e in

@@ -16,6 +16,7 @@ use Rattle.tree.specs.Splits.{pick, bit, Rights, rightsOf, allows}
 use Rattle.tree.specs.Flags.{cutOpen, someCut, splitThere, quadThere, verticalThere, binaryThere, flagByte, cutFlags, flagsFor}
 use Rattle.tree.specs.Tree.{Trees, none, skip, node, flagsOf}
 use Rattle.laws.specs.Counts.{flagsAt, flagCount}
+use Rattle.laws.proofs.Tests.{bit-most}
 
 -- ---- it is the length of its flags
 
@@ -32,12 +33,30 @@ module _ (r : Rights) where
       rw (then-count (splitThere r) true, then-count (quadThere r) false, then-count (verticalThere r) (pick d false true), byte-count (binaryThere r d) binary)
       (omega arith)
 
+  cut-four : (d : Direction) → flagsAt r (Binary d) ≤ 4
+  cut-four d =
+      let s = bit-most (splitThere r) 1 in
+      let q = bit-most (quadThere r) 1 in
+      let v = bit-most (verticalThere r) 1 in
+      let b = bit-most (binaryThere r d) 1 in
+      omega arith
+
   for-count : (d : Decision) → length (flagsFor r d) ≡ flagsAt r d
   unfolding flagsFor
   for-count Leaf = byte-count (splitThere r) false
   for-count Quad = rw (then-count (splitThere r) true, byte-count (quadThere r) true)
   for-count (Binary d) = cut-flags d true
   for-count (Ternary d) = cut-flags d false
+
+-- a decision has four at most
+pub flags-four : (r : Rights) (d : Decision) → length (flagsFor r d) ≤ 4
+flags-four r d = rw (for-count r d) (go d)
+  where
+    go : (d : Decision) → flagsAt r d ≤ 4
+    go Leaf = let s = bit-most (splitThere r) 1 in omega arith
+    go Quad = let s = bit-most (splitThere r) 1 in let q = bit-most (quadThere r) 1 in omega arith
+    go (Binary d) = cut-four r d
+    go (Ternary d) = cut-four r d
 
 pub flag-count : {k : Kind} {ns : List Node} (t : Trees k ns) → length (flagsOf t) ≡ flagCount t
 unfolding flagsOf flagCount

@@ -13,8 +13,9 @@ use Rattle.tree.specs.Rows.{Row}
 use Rattle.tree.specs.Tree.{Tree, rowsOf}
 use Rattle.laws.specs.Geometry.{span, rectangle, copies}
 use Rattle.laws.specs.Every.{every-none, every-more}
-use Rattle.laws.proofs.Directions.{extent}
-use Rattle.laws.proofs.Shape.{Shape}
+use Rattle.laws.specs.Proper.{Proper}
+use Rattle.laws.specs.Directions.{extent}
+use Rattle.laws.specs.Shape.{Shape}
 use Rattle.laws.proofs.Measure.{UpTo, ofRows, measured}
 
 -- ---- spans
@@ -86,9 +87,9 @@ module _ (px py : ℕ) where
   copies-rows (r ∷ rows) = rw (copies-rows rows)
 
 -- 1 for the samples of the node's rectangle that lie in the picture, 0 for all others
-pub covered : (k : Kind) {n : Node} → 4 ≤ k .limits .mincb → 4 ≤ k .limits .minqt → Shape n → (t : Tree k n) (px py : ℕ)
+pub covered : {k : Kind} → Proper k → {n : Node} → Shape n → (t : Tree k n) (px py : ℕ)
     → copies px py (rowsOf t) ≡ rectangle (n .x) (n .y) (n .w) (n .h) px py * rectangle 0 0 (k .limits .width) (k .limits .height) px py
-covered k cb qt sh t px py =
+covered {k} v sh t px py =
     copies-rows px py (rowsOf t)
-    ∙ measured k (λ e. span-measure (extent e (k .limits)) (point px py e)) cb qt t (every-more sh every-none)
+    ∙ measured v (λ e. span-measure (extent e (k .limits)) (point px py e)) t (every-more sh every-none)
     ∙ omega arith

@@ -15,9 +15,11 @@ use Rattle.tree.specs.Children.{child, children}
 use Rattle.tree.specs.Rows.{rowOf}
 use Rattle.tree.specs.Tree.{Tree, rowsOf}
 use Rattle.laws.specs.Every.{Every, every-none, every-more}
+use Rattle.laws.specs.Proper.{Proper}
+use Rattle.laws.specs.Shape.{Side, Shape}
 use Rattle.laws.proofs.EveryRow.{every-row}
 use Rattle.laws.proofs.Parts.{Piece, every-child, child-under}
-use Rattle.laws.proofs.Shape.{Side, side-four, Shape, shape-child}
+use Rattle.laws.proofs.Shape.{side-four, shape-child}
 use Rattle.laws.proofs.Levels.{child-shorter}
 use Rattle.laws.proofs.Depths.{one-deeper}
 
@@ -56,10 +58,10 @@ record Bounded (c : ℕ) (n : Node) : Type 0 where
   shape : Shape n
   sum : powers shape + n .qt + n .mtt ≤ c
 
-module _ (k : Kind) (cb : 4 ≤ k .limits .mincb) (qt : 4 ≤ k .limits .minqt) (c : ℕ) where
+module _ {k : Kind} (v : Proper k) (c : ℕ) where
   bounded-child : (n : Node) → Bounded c n → (d : Decision) → allows (rightsOf k n) d ≡ true → (p : Share) → Piece d p → Bounded c (child (k .limits) n d p)
   bounded-child n b d ok p piece =
-      let sh = shape-child k n cb qt (b .shape) d ok p piece in
+      let sh = shape-child v (b .shape) d ok p piece in
       let w = child-under (k .limits) n piece Vertical (side-four (b .shape .side Vertical)) in
       let h = child-under (k .limits) n piece Horizontal (side-four (b .shape .side Horizontal)) in
       let falls = powers-fall sh (b .shape) w h (child-shorter (k .limits) n (b .shape) piece) in
@@ -72,6 +74,6 @@ module _ (k : Kind) (cb : 4 ≤ k .limits .mincb) (qt : 4 ≤ k .limits .minqt) 
   unfolding rowOf
   rows-bounded b t = every-row k bounded-kids (λ n here inside. let s = here .sum in omega arith) t (every-more b every-none)
 
-pub rows-deep : (k : Kind) → 4 ≤ k .limits .mincb → 4 ≤ k .limits .minqt → {n : Node} → (sh : Shape n)
+pub rows-deep : {k : Kind} → Proper k → {n : Node} (sh : Shape n)
     → sh .side Vertical .fold .power + sh .side Horizontal .fold .power + n .qt + n .mtt ≤ 10 → (t : Tree k n) → Every (λ r. r .qt + r .mtt ≤ 10) (rowsOf t)
-rows-deep k cb qt sh sum t = rows-bounded k cb qt _ (record { shape = sh; sum = sum }) t
+rows-deep v sh sum t = rows-bounded v _ (record { shape = sh; sum = sum }) t

@@ -17,13 +17,15 @@ use Rattle.tree.specs.Rows.{rowOf}
 use Rattle.tree.specs.Tree.{Tree, rowsOf}
 use Rattle.laws.specs.Geometry.{SmallRow}
 use Rattle.laws.specs.Every.{Every, every-none, every-more}
+use Rattle.laws.specs.Proper.{Proper}
+use Rattle.laws.specs.Directions.{extent}
+use Rattle.laws.specs.Shape.{Shape}
 use Rattle.laws.proofs.Picture.{inside-end}
 use Rattle.laws.proofs.Leaves.{side-exponent}
 use Rattle.laws.proofs.EveryRow.{every-row}
-use Rattle.laws.proofs.Directions.{extent}
 use Rattle.laws.proofs.Multiples.{fold-least}
 use Rattle.laws.proofs.Parts.{every-child}
-use Rattle.laws.proofs.Shape.{Shape, side-power, shape-child}
+use Rattle.laws.proofs.Shape.{side-power, shape-child}
 use Rattle.laws.proofs.Levels.{child-shorter}
 
 -- Sides and depths are at most 256 together: a split takes from the sides and adds 1 to a depth.
@@ -38,10 +40,10 @@ one-deeper l n Quad p = omega arith
 one-deeper l n (Binary d) p = omega arith
 one-deeper l n (Ternary d) p = omega arith
 
-module _ (k : Kind) (cb : 4 ≤ k .limits .mincb) (qt : 4 ≤ k .limits .minqt) where
+module _ {k : Kind} (v : Proper k) where
   shallow-kids : (n : Node) → Shallow n → (d : Decision) → allows (rightsOf k n) d ≡ true → Every Shallow (children (k .limits) n d)
   shallow-kids n s d ok = every-child k n d (λ p piece. record {
-    shape = shape-child k n cb qt (s .shape) d ok p piece;
+    shape = shape-child v (s .shape) d ok p piece;
     sum = let a = child-shorter (k .limits) n (s .shape) piece in let b = one-deeper (k .limits) n d p in let e = s .sum in omega arith;
   })
 

@@ -1,23 +1,20 @@
 -- The two directions as a parameter.
 use Prim.Native.Nat.{ℕ, _≤_}
-use mathlib.Core.Path.{_≡_, refl}
+use mathlib.Core.Path.{_≡_, refl, sym}
 use native.Mathlib.Omega.{arith}
-use Rattle.tree.specs.declared.Limits.{Limits}
 use Rattle.tree.specs.declared.Node.{Node}
 use Rattle.tree.specs.declared.Direction.{Direction}
 use Rattle.tree.specs.declared.Direction.the-variants.{Horizontal, Vertical}
 use Rattle.tree.specs.Splits.{pick, along, across}
 
--- a node's corner and the picture's end, in the dimension that a cut of direction e divides
-abbrev pub corner : Direction → Node → ℕ
-corner e n = pick e (n .y) (n .x)
-
-abbrev pub extent : Direction → Limits → ℕ
-extent e l = pick e (l .height) (l .width)
-
 pub two-ways : {A : Type 0} (f : Direction → A) (d : Direction) → pick d (f Horizontal) (f Vertical) ≡ f d
 two-ways f Horizontal = refl
 two-ways f Vertical = refl
+
+-- the sides of a square
+pub square-side : (n : Node) → n .w ≡ n .h → (e : Direction) → along e n ≡ n .w
+square-side n s Horizontal = sym s
+square-side n s Vertical = refl
 
 -- a bound of the sides: from both to each, from each to the other one, and from one side of a square to each
 module _ (n : Node) {c : ℕ} where

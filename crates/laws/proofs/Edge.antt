@@ -1,5 +1,6 @@
--- Every node of a coding tree that is out of the picture has an open split: document 01's remark at refusal 9.
-use Prim.Native.Nat.{ℕ, zero, suc, _+_, _*_, _≤_, _<_, max}
+-- Every node of a coding tree that is out of the picture has an open split, in every proper kind: document 01's remark at refusal 9, and R-6's for chroma.
+-- Such a node lies on the grain of the picture: its parents are out too, and where a node is out, the edge of the picture leaves it two grains at least.
+use Prim.Native.Nat.{ℕ, zero, suc, _+_, _≤_, _<_}
 use mathlib.Core.Path.{_≡_, refl, ap}
 use mathlib.Core.Bool.{Bool, true, false, not, _&&_, _||_}
 use lib.Dec.{leb, ltb, eqb}
@@ -8,236 +9,213 @@ use native.Mathlib.Omega.{arith}
 use native.Mathlib.Decide.{decLt}
 use Rattle.sides.proofs.Bools.{clash, and-no, and-late, or-right}
 use Rattle.sides.specs.Side.{exponent}
-use Rattle.sides.proofs.Powers.{Side as PowerSide}
-use Rattle.tree.specs.declared.Limits.{Limits}
 use Rattle.tree.specs.declared.Node.{Node}
 use Rattle.tree.specs.declared.Share.{Share}
 use Rattle.tree.specs.declared.Direction.{Direction}
 use Rattle.tree.specs.declared.Direction.the-variants.{Horizontal, Vertical}
 use Rattle.tree.specs.declared.Decision.{Decision}
 use Rattle.tree.specs.declared.Decision.the-variants.{Leaf, Quad, Binary, Ternary}
-use Rattle.tree.specs.Kind.{Kind, luma}
-use Rattle.tree.specs.Splits.{along, across, rightOut, bottomOut, inside, outAlong, quadOpen, closedAcross, closedCorner, closedMiddle, binaryClosed, binaryOpen, rightsOf, allows, bit}
+use Rattle.tree.specs.Kind.{Kind, closes, luma}
+use Rattle.tree.specs.Splits.{along, across, rightOut, bottomOut, inside, outAlong, quadOpen, closedAcross, binaryClosed, binaryOpen, ternaryOpen, rightsOf, allows}
 use Rattle.tree.specs.Flags.{cutOpen, someOpen}
 use Rattle.tree.specs.Children.{child, childMtt, childOffset, children, cornerInside}
 use Rattle.laws.specs.Every.{Every}
-use Rattle.laws.proofs.Picture.{starts-in, out-past, out-some, cut-out, child-out, child-corners}
-use Rattle.laws.proofs.Directions.{corner, extent, other-side, square-sides}
-use Rattle.laws.proofs.Multiples.{Multiple, Fold, fold-multiple, fold-least, same-multiple, trans-multiple, trans-fold, power-fold, apart}
-use Rattle.laws.proofs.Opens.{luma-may, quad-open, BinaryOpen, binary-open, ternary-open}
-use Rattle.laws.proofs.Parts.{least, Piece, no-piece, every-child, child-under, child-fold, child-start}
-use Rattle.laws.proofs.Walks.{Open}
-use Rattle.laws.proofs.Shape.{Shape, side-four, quad-room, room, shape-child}
+use Rattle.laws.specs.Proper.{grain, Proper, RootSquare}
+use Rattle.laws.specs.Good.{Edge, Good}
+use Rattle.laws.specs.Multiples.{Multiple}
+use Rattle.laws.proofs.Picture.{starts-in, out-past, out-some, cut-out, child-out, child-here, child-corners}
+use Rattle.laws.proofs.Directions.{other-side, square-side, square-sides}
+use Rattle.laws.proofs.Multiples.{fold-multiple, fold-least, same-multiple, apart}
+use Rattle.laws.proofs.Opens.{quad-open, BinaryOpen, binary-open, ternary-open}
+use Rattle.laws.proofs.Parts.{Piece, no-piece, every-child, child-under}
+use Rattle.laws.proofs.Shape.{side-four, square-room, cut-room, shape-child}
+use Rattle.laws.proofs.Grids.{grid-child, four-qt, grain-power, four-grain, picture, flat-picture, root-shape, root-grid}
 
--- ---- limits that pass the checks, and the nodes of their trees
+-- ---- a root is good
 
--- what refusals 2 to 9 leave, as far as the edge needs it
-pub record Valid (l : Limits) : Type 0 where
-  pub fourCb : Multiple 4 (l .mincb)
-  pub fourQt : Multiple 4 (l .minqt)
-  pub leastCb : 4 ≤ l .mincb
-  pub leQt : l .mincb ≤ l .minqt
-  pub qt64 : l .minqt ≤ 64
-  pub qtBt : l .minqt ≤ l .maxbt
-  pub pictureCb : (e : Direction) → Multiple (l .mincb) (extent e l)
-  pub pictureQt : l .maxmtt ≡ 0 → (e : Direction) → Multiple (l .minqt) (extent e l)
-
--- sides of 4 and more, a picture of multiples of the larger of 8 and MinCb, and of MinQt where M is 0
-pub valid-limits : {l : Limits} → PowerSide 4 64 (l .mincb) → PowerSide (l .mincb) 64 (l .minqt) → l .minqt ≤ l .maxbt
-    → ((e : Direction) → Multiple (max 8 (l .mincb)) (extent e l)) → (l .maxmtt ≡ 0 → (e : Direction) → Multiple (l .minqt) (extent e l)) → Valid l
-valid-limits {l} cb qt bt picture flat =
-    let a = cb .least in
-    let b = qt .least in
-    record {
-      fourCb = fold-multiple (power-fold 2 (exponent (l .mincb)) refl (cb .is) a);
-      fourQt = fold-multiple (power-fold 2 (exponent (l .minqt)) refl (qt .is) (omega arith));
-      leastCb = a;
-      leQt = b;
-      qt64 = qt .most;
-      qtBt = bt;
-      pictureCb = λ e. trans-multiple (eight (decLt (l .mincb) 8)) (picture e);
-      pictureQt = flat;
-    }
-  where
-    eight : Dec (l .mincb < 8) → Multiple (l .mincb) (max 8 (l .mincb))
-    eight (yes k) = let e : max 8 (l .mincb) ≡ 8 = omega arith in rw e (fold-multiple (power-fold (exponent (l .mincb)) 3 (cb .is) refl (omega arith)))
-    eight (no k) = let e : max 8 (l .mincb) ≡ l .mincb = omega arith in rw e (same-multiple (l .mincb))
-
--- sides that are folds of m, at multiples of m
-pub record Grid (m : ℕ) (n : Node) : Type 0 where
-  pub side : (e : Direction) → Fold m (along e n)
-  pub at : (e : Direction) → Multiple m (corner e n)
-
--- a node above all binary and ternary cuts
-pub record Top (l : Limits) (n : Node) : Type 0 where
-  pub grid : Grid (l .minqt) n
-  pub offset : n .offset ≡ 0
-
--- what opens a cut at a node that is out of the picture
-pub record Edge (l : Limits) (n : Node) : Type 0 where
-  pub lifted : n .offset ≡ n .mtt
-  pub deep : 0 < l .maxmtt
-  pub small : (e : Direction) → along e n ≤ 64
-  pub bt : (e : Direction) → along e n ≤ l .maxbt
-  pub corners : closedCorner l n ≡ false
-  pub outer : (d : Direction) → closedMiddle n d ≡ false
-
--- every node that a walk reaches
-pub record Good (l : Limits) (n : Node) : Type 0 where
-  pub shape : Shape n
-  pub grid : Grid (l .mincb) n
-  pub top : n .mtt ≡ 0 → Top l n
-  pub edge : inside l n ≡ false → 0 < n .mtt → Edge l n
-
--- the root of a unit is one
-pub good-root : {l : Limits} {n : Node} → Fold (l .mincb) (l .minqt) → Shape n → Top l n → n .mtt ≡ 0 → Good l n
-good-root f sh t z = record {
-  shape = sh;
-  grid = record { side = λ e. trans-fold f (t .grid .side e); at = λ e. trans-multiple (fold-multiple f) (t .grid .at e) };
-  top = λ _. t;
+pub good-root : {k : Kind} → Proper k → {n : Node} → RootSquare (k .limits) n → Good (k .limits) n
+good-root {k} v r = record {
+  shape = root-shape r;
+  top = λ _. root-grid r (exponent (k .limits .minqt)) (v .qtPower) (omega arith);
+  grid = λ _ _. let g = grain-power v in root-grid r (g .0) (g .1) (omega arith);
+  lifted = λ _. let a = r .uncut in let b = r .unlifted in omega arith;
   edge = λ _ d. absurd (omega arith);
 }
 
 -- ---- an edge node has an open split
 
-module _ {l : Limits} (v : Valid l) {n : Node} (g : Good l n) (here : cornerInside l n ≡ true) (out : inside l n ≡ false) where
-  edge-cut : Edge l n → (d : Direction) → outAlong d l n ≡ true → closedAcross l n d ≡ false → binaryOpen l n d ≡ true
+left-open : (shut right : Bool) → (right ≡ true → shut ≡ false) → (not shut && right) ≡ right
+left-open shut true h = rw (h refl)
+left-open shut false h = and-no (not shut) false refl
+
+module _ {k : Kind} (v : Proper k) {n : Node} (g : Good (k .limits) n) (here : cornerInside (k .limits) n ≡ true) (out : inside (k .limits) n ≡ false) where
+  -- it is longer than the grain where it is out
+  out-long : (e : Direction) → outAlong e (k .limits) n ≡ true → grain (k .limits) < along e n
+  out-long e o =
+      let past = out-past (k .limits) n e o in
+      let gap = apart (g .grid here out .at e) (picture v e) (starts-in k n here e) in
+      omega arith
+
+  pub out-sixteen : (e : Direction) → outAlong e (k .limits) n ≡ true → 16 ≤ along e n
+  out-sixteen e o = let two = apart (same-multiple _) (fold-multiple (g .grid here out .side e)) (out-long e o) in omega arith
+
+  out-square : n .w ≡ n .h → grain (k .limits) < n .w
+  out-square z =
+      let o = out-some (k .limits) n out in
+      let a = square-side n z (o .0) in
+      let b = out-long (o .0) (o .1) in
+      omega arith
+
+  -- there a kind closes nothing that the rules leave open: its rights are luma's
+  pub edge-same : (d : Decision) → allows (rightsOf k n) d ≡ allows (rightsOf (luma (k .limits)) n) d
+  unfolding rightsOf
+  edge-same Leaf = refl
+  edge-same Quad = left-open (closes k n Quad) (quadOpen (k .limits) n) (λ o.
+      let z = g .shape .square (quad-open (luma (k .limits)) n o .top) in
+      let two = apart (same-multiple _) (fold-multiple (g .grid here out .side Vertical)) (out-square z) in
+      v .quad n (omega arith) (omega arith))
+  edge-same (Binary d) = left-open (closes k n (Binary d)) (binaryOpen (k .limits) n d) (λ o.
+      let along = out-long d (cut-out (k .limits) n d (binary-open (luma (k .limits)) n d o .across) out) in
+      let two = apart (same-multiple _) (fold-multiple (g .grid here out .side d)) along in
+      let w = fold-least (g .grid here out .side Vertical) in
+      let h = fold-least (g .grid here out .side Horizontal) in
+      v .cut n d (omega arith) (omega arith) (omega arith))
+  edge-same (Ternary d) = left-open (closes k n (Ternary d)) (ternaryOpen (k .limits) n d) (λ o. clash (ternary-open (luma (k .limits)) n d o .within) out)
+
+  edge-cut : Edge (k .limits) n → (d : Direction) → outAlong d (k .limits) n ≡ true → closedAcross (k .limits) n d ≡ false → binaryOpen (k .limits) n d ≡ true
   unfolding binaryOpen binaryClosed
   edge-cut e d o a =
-      let past = out-past l n d o in
-      let gap = apart (g .grid .at d) (v .pictureCb d) (starts-in (luma l) n here d) in
-      let x = e .lifted in
+      let l = out-long d o in
+      let x = g .lifted out in
       let y = e .deep in
       let s = le-ltb 64 (across d n) (other-side n (e .small) d) in
-      rw (lt-ltb (l .mincb) (along d n) (omega arith), le-leb (n .w) (l .maxbt) (e .bt Vertical), le-leb (n .h) (l .maxbt) (e .bt Horizontal), lt-ltb (n .mtt) (l .maxmtt + n .offset) (omega arith))
+      rw (lt-ltb (k .limits .mincb) (along d n) (omega arith), le-leb (n .w) (k .limits .maxbt) (e .bt Vertical), le-leb (n .h) (k .limits .maxbt) (e .bt Horizontal), lt-ltb (n .mtt) (k .limits .maxmtt + n .offset) (omega arith))
       (rw (a, s, e .corners, e .outer d) (ap not (and-no (leb (along d n) 64) false refl)))
 
-  cut-some : Edge l n → someOpen (rightsOf (luma l) n) ≡ true
+  cut-some : Edge (k .limits) n → someOpen (rightsOf (luma (k .limits)) n) ≡ true
   unfolding rightsOf
-  cut-some e = let o = out-some l n out in go (o .0) (edge-cut e (o .0) (o .1) (o .2))
+  cut-some e = let o = out-some (k .limits) n out in go (o .0) (edge-cut e (o .0) (o .1) (o .2))
     where
-      go : (d : Direction) → binaryOpen l n d ≡ true → someOpen (rightsOf (luma l) n) ≡ true
-      go Horizontal h = or-right (quadOpen l n) _ (rw h)
-      go Vertical h = or-right (quadOpen l n) _ (or-right (cutOpen (rightsOf (luma l) n) Horizontal) _ (rw h))
+      go : (d : Direction) → binaryOpen (k .limits) n d ≡ true → someOpen (rightsOf (luma (k .limits)) n) ≡ true
+      go Horizontal h = or-right (quadOpen (k .limits) n) _ (rw h)
+      go Vertical h = or-right (quadOpen (k .limits) n) _ (or-right (cutOpen (rightsOf (luma (k .limits)) n) Horizontal) _ (rw h))
 
   -- a node above all cuts that no quad split can divide
-  module _ (top : n .mtt ≡ 0) (least : n .w ≤ l .minqt) where
-    top-side : (e : Direction) → along e n ≡ l .minqt
-    top-side Horizontal = let a = g .shape .square top in let b = fold-least (g .top top .grid .side Vertical) in omega arith
-    top-side Vertical = let b = fold-least (g .top top .grid .side Vertical) in omega arith
+  module _ (top : n .mtt ≡ 0) (least : n .w ≤ k .limits .minqt) where
+    top-side : (e : Direction) → along e n ≡ k .limits .minqt
+    top-side e = let a = square-side n (g .shape .square top) e in let b = fold-least (g .top top .side Vertical) in omega arith
 
     -- with M = 0 it lies in the picture, which is a multiple of it
-    top-deep : (m : ℕ) → l .maxmtt ≡ m → 0 < m
+    top-deep : (m : ℕ) → k .limits .maxmtt ≡ m → 0 < m
     top-deep (suc m) e = omega arith
     top-deep zero e =
-        let o = out-some l n out in
-        let a = apart (g .top top .grid .at (o .0)) (v .pictureQt e (o .0)) (starts-in (luma l) n here (o .0)) in
-        let b = out-past l n (o .0) (o .1) in
+        let o = out-some (k .limits) n out in
+        let a = apart (g .top top .at (o .0)) (flat-picture v e (o .0)) (starts-in k n here (o .0)) in
+        let b = out-past (k .limits) n (o .0) (o .1) in
         let c = top-side (o .0) in
         absurd (omega arith)
 
-    top-edge : Edge l n
+    top-edge : Edge (k .limits) n
     top-edge = record {
-      lifted = let o = g .top top .offset in omega arith;
-      deep = top-deep (l .maxmtt) refl;
+      deep = top-deep (k .limits .maxmtt) refl;
       small = λ e. let s = top-side e in let b = v .qt64 in omega arith;
       bt = λ e. let s = top-side e in let b = v .qtBt in omega arith;
-      corners = and-no (rightOut l n && bottomOut l n) (ltb (l .minqt) (n .w)) (le-ltb (l .minqt) (n .w) least);
+      corners = and-no (rightOut (k .limits) n && bottomOut (k .limits) n) (ltb (k .limits .minqt) (n .w)) (le-ltb (k .limits .minqt) (n .w) least);
       outer = λ d. rw (le-ltb 0 (n .mtt) (omega arith));
     }
 
-  split-some : someOpen (rightsOf (luma l) n) ≡ true
+  luma-open : someOpen (rightsOf (luma (k .limits)) n) ≡ true
   unfolding rightsOf
-  split-some = go (decLt 0 (n .mtt)) (decLt (l .minqt) (n .w))
+  luma-open = go (decLt 0 (n .mtt)) (decLt (k .limits .minqt) (n .w))
     where
-      go : Dec (0 < n .mtt) → Dec (l .minqt < n .w) → someOpen (rightsOf (luma l) n) ≡ true
+      go : Dec (0 < n .mtt) → Dec (k .limits .minqt < n .w) → someOpen (rightsOf (luma (k .limits)) n) ≡ true
       go (yes d) w = cut-some (g .edge out d)
-      go (no d) (yes w) = rw (eq-eqb (n .mtt) 0 (omega arith), lt-ltb (l .minqt) (n .w) w)
+      go (no d) (yes w) = rw (eq-eqb (n .mtt) 0 (omega arith), lt-ltb (k .limits .minqt) (n .w) w)
       go (no d) (no w) = cut-some (top-edge (omega arith) (omega arith))
 
-pub edge-has-open-split : {l : Limits} {n : Node} → Valid l → Good l n → cornerInside l n ≡ true → inside l n ≡ false → someOpen (rightsOf (luma l) n) ≡ true
-edge-has-open-split v g here out = split-some v g here out
+  pub edge-has-open-split : someOpen (rightsOf k n) ≡ true
+  edge-has-open-split = rw (edge-same Quad, edge-same (Binary Horizontal), edge-same (Ternary Horizontal), edge-same (Binary Vertical), edge-same (Ternary Vertical)) luma-open
 
 -- ---- the children of an allowed decision are good
 
-grid-child : (l : Limits) {n : Node} {m : ℕ} → Multiple 4 m → Grid m n → {d : Decision} {p : Share} → Piece d p → ((e : Direction) → m * 2 < along e n * least d e) → Grid m (child l n d p)
-grid-child l {n} f g piece h = record {
-  side = λ e. child-fold l n piece e f (g .side e) (h e);
-  at = λ e. child-start l n piece e f (g .side e) (h e) (g .at e);
-}
-
-module _ {l : Limits} (v : Valid l) {n : Node} (g : Good l n) where
+module _ {k : Kind} (v : Proper k) {n : Node} (g : Good (k .limits) n) where
   four-sides : (e : Direction) → Multiple 4 (along e n)
   four-sides e = side-four (g .shape .side e)
 
   -- a binary cut at the edge
-  module _ (d : Direction) (o : BinaryOpen l n d) (out : inside l n ≡ false) where
-    out-along : outAlong d l n ≡ true
-    out-along = cut-out l n d (o .across) out
+  module _ (d : Direction) (o : BinaryOpen (k .limits) n d) (out : inside (k .limits) n ≡ false) where
+    out-along : outAlong d (k .limits) n ≡ true
+    out-along = cut-out (k .limits) n d (o .across) out
 
-    cut-parent : (n .offset ≡ n .mtt) × ((e : Direction) → along e n ≤ 64)
-    cut-parent = go (decLt 0 (n .mtt))
+    cut-small : (e : Direction) → along e n ≤ 64
+    cut-small = go (decLt 0 (n .mtt))
       where
-        go : Dec (0 < n .mtt) → (n .offset ≡ n .mtt) × ((e : Direction) → along e n ≤ 64)
-        go (yes k) = let e = g .edge out k in (e .lifted, e .small)
-        go (no k) =
-            let z : n .mtt ≡ 0 = omega arith in
-            let t = g .top z .offset in
-            (omega arith, square-sides n (g .shape .square z) d (ltb-false 64 (across d n) (and-late (ltb 64 (across d n)) (outAlong d l n) (o .large) out-along)))
+        go : Dec (0 < n .mtt) → (e : Direction) → along e n ≤ 64
+        go (yes h) = g .edge out h .small
+        go (no h) = square-sides n (g .shape .square (omega arith)) d (ltb-false 64 (across d n) (and-late (ltb 64 (across d n)) (outAlong d (k .limits) n) (o .large) out-along))
 
-    child-edge : {p : Share} → Piece (Binary d) p → Edge l (child l n (Binary d) p)
-    unfolding child childMtt childOffset
+    child-edge : {p : Share} → Piece (Binary d) p → Edge (k .limits) (child (k .limits) n (Binary d) p)
+    unfolding child childMtt
     child-edge {p} piece =
-        let q = cut-parent in
-        let lifted = q .0 in
+        let lifted = g .lifted out in
         let deep = o .deep in
-        let al : bit (outAlong d l n) 1 ≡ 1 = rw out-along in
         record {
-          lifted = omega arith;
           deep = omega arith;
-          small = λ e. let a = child-under l n piece e (four-sides e) in let b = q .1 e in omega arith;
-          bt = λ e. let a = child-under l n piece e (four-sides e) in let b = o .bt e in omega arith;
-          corners = child-corners l n piece four-sides (o .corner);
+          small = λ e. let a = child-under (k .limits) n piece e (four-sides e) in let b = cut-small e in omega arith;
+          bt = λ e. let a = child-under (k .limits) n piece e (four-sides e) in let b = o .bt e in omega arith;
+          corners = child-corners (k .limits) n piece four-sides (o .corner);
           outer = λ e. and-no (ltb 0 (n .mtt + 1) && eqb (p .part) 1) false refl;
         }
 
-  child-top : (d : Decision) → allows (rightsOf (luma l) n) d ≡ true → {p : Share} → Piece d p → childMtt d n ≡ 0 → Top l (child l n d p)
-  unfolding rightsOf child childMtt childOffset
-  child-top Leaf ok piece e = no-piece piece
-  child-top Quad ok piece e =
-      let o = quad-open l n ok in
-      record { grid = grid-child l (v .fourQt) (g .top (o .top) .grid) piece (quad-room l n (omega arith) (g .shape .square (o .top)) o); offset = refl }
-  child-top (Binary d) ok piece e = absurd (omega arith)
-  child-top (Ternary d) ok piece e = absurd (omega arith)
-
-  child-cut : (d : Decision) → allows (rightsOf (luma l) n) d ≡ true → {p : Share} → Piece d p → inside l n ≡ false → 0 < childMtt d n → Edge l (child l n d p)
-  unfolding rightsOf childMtt
-  child-cut Leaf ok piece out e = no-piece piece
-  child-cut Quad ok piece out e = absurd (omega arith)
-  child-cut (Binary d) ok piece out e = child-edge d (binary-open l n d ok) out piece
-  child-cut (Ternary d) ok piece out e = clash (ternary-open l n d ok .within) out
-
-  pub good-child : (d : Decision) → allows (rightsOf (luma l) n) d ≡ true → (p : Share) → Piece d p → Good l (child l n d p)
-  unfolding child
-  good-child d ok p piece =
-      let a = v .leastCb in
-      let b = v .leQt in
+  pub good-child : (d : Decision) → allows (rightsOf k n) d ≡ true → (p : Share) → Piece d p → Good (k .limits) (child (k .limits) n d p)
+  unfolding child childMtt childOffset
+  good-child Leaf ok p piece = no-piece piece
+  good-child Quad ok p piece =
+      let o = quad-open k n ok in
+      let z = g .shape .square (o .top) in
       record {
-        shape = shape-child (luma l) n a (omega arith) (g .shape) d ok p piece;
-        grid = grid-child l (v .fourCb) (g .grid) piece (room l n (omega arith) (λ e. fold-least (g .grid .side e)) (omega arith) b (g .shape .square) d ok);
-        top = child-top d ok piece;
-        edge = λ out. child-cut d ok piece (child-out l n piece four-sides out);
+        shape = shape-child v (g .shape) Quad ok p piece;
+        top = λ _. grid-child (k .limits) (four-qt v) (g .top (o .top)) piece (square-room (k .limits .minqt) n z (o .large));
+        grid = λ here out.
+            let h = child-here k n Quad p here in
+            let u = child-out (k .limits) n piece four-sides out in
+            grid-child (k .limits) (four-grain v) (g .grid h u) piece (square-room (grain (k .limits)) n z (out-square v g h u z));
+        lifted = λ _. refl;
+        edge = λ _ c. absurd (omega arith);
+      }
+  good-child (Binary d) ok p piece =
+      let o = binary-open k n d ok in
+      record {
+        shape = shape-child v (g .shape) (Binary d) ok p piece;
+        top = λ c. absurd (omega arith);
+        grid = λ here out.
+            let h = child-here k n (Binary d) p here in
+            let u = child-out (k .limits) n piece four-sides out in
+            let l = out-long v g h u d (out-along d o u) in
+            grid-child (k .limits) (four-grain v) (g .grid h u) piece (cut-room (grain (k .limits)) n (omega arith) (λ e. fold-least (g .grid h u .side e)) 2 d (omega arith));
+        lifted = λ out. let u = child-out (k .limits) n piece four-sides out in let a = g .lifted u in rw (out-along d o u) (omega arith);
+        edge = λ out _. child-edge d o (child-out (k .limits) n piece four-sides out) piece;
+      }
+  good-child (Ternary d) ok p piece =
+      let i = ternary-open k n d ok .within in
+      let up = child-out (k .limits) n piece four-sides in
+      record {
+        shape = shape-child v (g .shape) (Ternary d) ok p piece;
+        top = λ c. absurd (omega arith);
+        grid = λ _ out. clash i (up out);
+        lifted = λ out. clash i (up out);
+        edge = λ out _. clash i (up out);
       }
 
--- in any kind
-pub good-kids : (k : Kind) {n : Node} → Valid (k .limits) → Good (k .limits) n → (d : Decision) → allows (rightsOf k n) d ≡ true → Every (Good (k .limits)) (children (k .limits) n d)
-good-kids k {n} v g d ok = every-child k n d (good-child v g d (luma-may k n d ok))
+  pub good-kids : (d : Decision) → allows (rightsOf k n) d ≡ true → Every (Good (k .limits)) (children (k .limits) n d)
+  good-kids d ok = every-child k n d (good-child d ok)
 
--- a good node in the picture is within it or has an open split, and its children are good
-pub edge-opens : (l : Limits) → Valid l → Open (luma l) (Good l)
-unfolding rightsOf
-edge-opens l v = record { edge = λ n g here. go n g here (inside l n) refl; kids = λ n d g ok. good-kids (luma l) v g d ok }
-  where
-    go : (n : Node) → Good l n → cornerInside l n ≡ true → (b : Bool) → inside l n ≡ b → (b || someOpen (rightsOf (luma l) n)) ≡ true
-    go n g here true i = refl
-    go n g here false i = edge-has-open-split v g here i
+module _ {k : Kind} (v : Proper k) where
+  -- so no walk over good nodes meets a dead end
+  pub no-dead-end : {n : Node} → Good (k .limits) n → cornerInside (k .limits) n ≡ true → (rightsOf k n .within || someOpen (rightsOf k n)) ≡ true
+  unfolding rightsOf
+  no-dead-end {n} g here = go (inside (k .limits) n) refl
+    where
+      go : (b : Bool) → inside (k .limits) n ≡ b → (b || someOpen (rightsOf k n)) ≡ true
+      go true i = refl
+      go false i = edge-has-open-split v g here i

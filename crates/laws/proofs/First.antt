@@ -16,9 +16,9 @@ use Rattle.tree.specs.Splits.{rightsOf, allows}
 use Rattle.tree.specs.Children.{share, slab, shares, child, childQt, childMtt, childrenFrom, children, cornerInside}
 use Rattle.tree.specs.Rows.{Row, rowOf, ownRows}
 use Rattle.tree.specs.Tree.{Trees, skip, node, rowsOf}
-use Rattle.laws.proofs.Directions.{corner}
+use Rattle.laws.specs.Directions.{corner}
 use Rattle.laws.proofs.Slabs.{by-way, from-along, from-across}
-use Rattle.laws.proofs.Opens.{luma-may, quad-open}
+use Rattle.laws.proofs.Opens.{quad-open}
 use Rattle.laws.proofs.Parts.{from, child-corner}
 use Rattle.laws.proofs.Leaves.{rowStart, leaf-start}
 
@@ -47,7 +47,7 @@ first-leaf n rows = record { row = rowOf n; others = rows; is = refl; at = leaf-
 child-deeper : (k : Kind) (n : Node) (d : Decision) → allows (rightsOf k n) d ≡ true → Deeper (n .qt) (n .mtt) (childQt d n) (childMtt d n)
 unfolding childQt childMtt rightsOf
 child-deeper k n Leaf ok = record { quad = omega arith; cut = λ h. (refl, omega arith) }
-child-deeper k n Quad ok = let z = quad-open (k .limits) n (luma-may k n Quad ok) .top in record { quad = omega arith; cut = λ h. absurd (omega arith) }
+child-deeper k n Quad ok = let z = quad-open k n ok .top in record { quad = omega arith; cut = λ h. absurd (omega arith) }
 child-deeper k n (Binary d) ok = record { quad = omega arith; cut = λ h. (refl, omega arith) }
 child-deeper k n (Ternary d) ok = record { quad = omega arith; cut = λ h. (refl, omega arith) }
 

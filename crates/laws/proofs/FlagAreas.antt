@@ -20,11 +20,14 @@ use Rattle.tree.specs.Children.{shares, child, childMtt, childrenFrom, children
 use Rattle.tree.specs.Tree.{Trees, Tree, none, skip, node, flagsOf}
 use Rattle.laws.specs.Counts.{flagsAt, flagCount}
 use Rattle.laws.specs.Every.{Every, every-none, every-more}
-use Rattle.laws.proofs.Areas.{areasOf, kids-areas}
+use Rattle.laws.specs.Proper.{Proper}
+use Rattle.laws.specs.Areas.{areasOf}
+use Rattle.laws.specs.Shape.{Shape}
+use Rattle.laws.proofs.Areas.{kids-areas}
 use Rattle.laws.proofs.Counts.{Entails, flag-count, flags-grow}
 use Rattle.laws.proofs.FlagRows.{cuts}
-use Rattle.laws.proofs.Opens.{luma-may, quad-open, binary-open, ternary-open}
-use Rattle.laws.proofs.Shape.{Shape, shape-kids}
+use Rattle.laws.proofs.Opens.{quad-open, binary-open, ternary-open}
+use Rattle.laws.proofs.Shape.{shape-kids}
 use Rattle.laws.proofs.Sides.{one-of, forSides, at-side}
 use Rattle.laws.proofs.Tests.{implies, implies-use}
 
@@ -93,7 +96,7 @@ at-node f t {n} sh =
     let b = at-side (λ h. forBool (f (n .w) h)) a (one-of (sh .side Horizontal)) in
     at-bool (f (n .w) (n .h)) b (ltb 0 (n .mtt))
 
-module _ (k : Kind) (n : Node) (cb : 4 ≤ k .limits .mincb) (qt : 4 ≤ k .limits .minqt) (sh : Shape n) where
+module _ {k : Kind} (v : Proper k) {n : Node} (sh : Shape n) where
   abbrev bySides : Rights
   bySides = mostOpen (n .w) (n .h) (ltb 0 (n .mtt))
 
@@ -101,19 +104,19 @@ module _ (k : Kind) (n : Node) (cb : 4 ≤ k .limits .mincb) (qt : 4 ≤ k .limi
   unfolding rightsOf
   at-most Leaf h = refl
   at-most Quad h =
-      let o = quad-open (k .limits) n (luma-may k n Quad h) in
+      let o = quad-open k n h in
       let t = o .top in
       let l = o .large in
       rw (le-ltb 0 (n .mtt) (omega arith), lt-ltb 4 (n .w) (omega arith), eq-eqb (n .w) (n .h) (sh .square t))
   at-most (Binary d) h =
-      let o = binary-open (k .limits) n d (luma-may k n (Binary d) h) in
+      let o = binary-open k n d h in
       let c = o .cut in
       rw (lt-ltb 4 (along d n) (omega arith), o .narrow)
   at-most (Ternary d) h =
-      let o = ternary-open (k .limits) n d (luma-may k n (Ternary d) h) in
+      let o = ternary-open k n d h in
       let c = o .cut in
-      let v = o .tt Vertical in
-      let u = o .tt Horizontal in
+      let wide = o .tt Vertical in
+      let high = o .tt Horizontal in
       rw (lt-ltb 8 (along d n) (omega arith), le-leb (n .w) 64 (omega arith), le-leb (n .h) 64 (omega arith))
 
   node-pays : (d : Decision) → allows (rightsOf k n) d ≡ true
@@ -144,7 +147,7 @@ module _ (k : Kind) (n : Node) (cb : 4 ≤ k .limits .mincb) (qt : 4 ≤ k .limi
 
 -- ---- all nodes
 
-module _ (k : Kind) (cb : 4 ≤ k .limits .mincb) (qt : 4 ≤ k .limits .minqt) where
+module _ {k : Kind} (v : Proper k) where
   count-spare : {ns : List Node} (t : Trees k ns) → Every Shape ns → 64 * flagCount t + 16 * sparesOf ns ≤ 7 * areasOf ns
   unfolding flagCount areasOf
   count-spare none shs = omega arith
@@ -153,11 +156,11 @@ module _ (k : Kind) (cb : 4 ≤ k .limits .mincb) (qt : 4 ≤ k .limits .minqt) 
       let b : 16 * spareOf n ≤ 7 * (n .w * n .h) = leb-true _ _ (at-node skips skip-test sh) in
       omega arith
   count-spare (node {n = n} d here ok kids rest) (every-more sh shs) =
-      let a = count-spare kids (shape-kids k n cb qt sh d ok) in
+      let a = count-spare kids (shape-kids v sh d ok) in
       let b = count-spare rest shs in
-      let c = node-pays k n cb qt sh d ok in
-      let e = split-spare k n cb qt sh d in
-      let f = split-area k n cb qt sh d in
+      let c = node-pays v sh d ok in
+      let e = split-spare v sh d in
+      let f = split-area v sh d in
       omega arith
 
   -- of a square above all cuts, as the root of a unit is

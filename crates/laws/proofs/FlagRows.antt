@@ -24,13 +24,15 @@ use Rattle.tree.specs.Tree.{Trees, Tree, none, skip, node, flagsOf, rowsOf}
 use Rattle.laws.proofs.Tests.{same-self, implies, implies-intro, implies-use}
 use Rattle.laws.specs.Counts.{flagsAt, flagCount}
 use Rattle.laws.specs.Every.{Every, every-none, every-more}
+use Rattle.laws.specs.Proper.{Proper}
+use Rattle.laws.specs.Directions.{corner, extent}
+use Rattle.laws.specs.Shape.{Shape}
 use Rattle.laws.proofs.Counts.{flag-count}
 use Rattle.laws.proofs.Picture.{starts-in, not-out}
-use Rattle.laws.proofs.Directions.{corner, extent}
 use Rattle.laws.proofs.Multiples.{fold-least, four-quarters}
-use Rattle.laws.proofs.Opens.{luma-may, quad-open, binary-open, ternary-open}
+use Rattle.laws.proofs.Opens.{quad-open, binary-open, ternary-open}
 use Rattle.laws.proofs.Parts.{from, child-corner}
-use Rattle.laws.proofs.Shape.{Shape, side-four, shape-kids}
+use Rattle.laws.proofs.Shape.{side-four, shape-kids}
 use Rattle.laws.proofs.Rights.{forRights, at-rights}
 
 -- The flags of a node's tree and a spare number more are at most 4 for each row. The spare is 2, and 3 below a cut, where no quad flag comes any more.
@@ -107,21 +109,21 @@ module _ (k : Kind) (n : Node) where
   cut-lawful : (d : Direction) → lawfulCut right bottom (rightsOf k n) d ≡ true
   unfolding rightsOf
   cut-lawful d =
-      and-intro _ _ (implies-intro (rightsOf k n .binary d) _ (λ h. ap not (binary-open (k .limits) n d (luma-may k n (Binary d) h) .across)))
+      and-intro _ _ (implies-intro (rightsOf k n .binary d) _ (λ h. ap not (binary-open k n d h .across)))
       (and-intro _ _ (implies-intro (rightsOf k n .quad && rightsOf k n .binary d) _ both)
-      (implies-intro (rightsOf k n .ternary d) _ (λ h. ternary-open (k .limits) n d (luma-may k n (Ternary d) h) .within)))
+      (implies-intro (rightsOf k n .ternary d) _ (λ h. ternary-open k n d h .within)))
     where
       both : (rightsOf k n .quad && rightsOf k n .binary d) ≡ true → not (right && bottom) ≡ true
       both h =
-          let q = quad-open (k .limits) n (luma-may k n Quad (and-left _ _ h)) in
-          let o = binary-open (k .limits) n d (luma-may k n (Binary d) (and-right (rightsOf k n .quad) _ h)) in
+          let q = quad-open k n (and-left _ _ h) in
+          let o = binary-open k n d (and-right (rightsOf k n .quad) _ h) in
           ap not (and-late (right && bottom) (ltb (k .limits .minqt) (n .w)) (o .corner) (lt-ltb _ _ (q .large)))
 
   node-lawful : lawful right bottom cut (rightsOf k n) ≡ true
   unfolding rightsOf
   node-lawful =
       and-intro _ _ (same-self (inside (k .limits) n))
-      (and-intro _ _ (implies-intro (rightsOf k n .quad) _ (λ h. let z = quad-open (k .limits) n (luma-may k n Quad h) .top in ap not (le-ltb 0 (n .mtt) (omega arith))))
+      (and-intro _ _ (implies-intro (rightsOf k n .quad) _ (λ h. let z = quad-open k n h .top in ap not (le-ltb 0 (n .mtt) (omega arith))))
       (and-intro _ _ (cut-lawful Horizontal) (cut-lawful Vertical)))
 
   node-pays : (d : Decision) → allows (rightsOf k n) d ≡ true
@@ -176,13 +178,13 @@ module _ (k : Kind) (n : Node) where
 
 -- ---- all nodes
 
-module _ (k : Kind) (cb : 4 ≤ k .limits .mincb) (qt : 4 ≤ k .limits .minqt) where
+module _ {k : Kind} (v : Proper k) where
   flags-spare : {ns : List Node} (t : Trees k ns) → Every Shape ns → flagCount t + sparesOf (k .limits) ns ≤ 4 * length (rowsOf t)
   unfolding flagCount rowsOf children
   flags-spare none shs = omega arith
   flags-spare (skip out rest) (every-more sh shs) = let a = flags-spare rest shs in rw out (omega arith)
   flags-spare (node {n = n} d here ok kids rest) (every-more sh shs) =
-      let a = flags-spare kids (shape-kids k n cb qt sh d ok) in
+      let a = flags-spare kids (shape-kids v sh d ok) in
       let b = flags-spare rest shs in
       let c = node-pays k n d ok in
       let e = kids-spare k n sh here d (shares d) in

@@ -1,4 +1,4 @@
--- A reading that stops has read the beginning of a coding tree's flags: in any kind whose walks meet no dead end.
+-- A reading that stops has read the beginning of a coding tree's flags: in every proper kind.
 use Prim.Native.Nat.{ℕ, zero, suc, _≤_}
 use mathlib.Core.Path.{_≡_, refl, _∙_}
 use mathlib.Core.Bool.{Bool, true, false}
@@ -18,12 +18,13 @@ use Rattle.tree.specs.Run.{End, goes, stops, Run, before, goOn, andThen, overAl
 use Rattle.tree.specs.Reading.{enter, walk}
 use Rattle.tree.specs.Tree.{Trees, skip, node, flagsOf}
 use Rattle.laws.specs.Every.{Every, every-none, every-more}
+use Rattle.laws.specs.Proper.{Proper}
 use Rattle.laws.proofs.Tests.{never}
 use Rattle.laws.proofs.Bytes.{reads-within}
 use Rattle.laws.proofs.Flags.{decide-sound}
 use Rattle.laws.proofs.Runs.{over-here, over-gone}
-use Rattle.laws.proofs.Shape.{Shape}
-use Rattle.laws.proofs.Walks.{Open, Sprout, node-sound}
+use Rattle.laws.proofs.Edge.{no-dead-end}
+use Rattle.laws.proofs.Walks.{Sprout, node-sound}
 use Rattle.laws.proofs.Grows.{Low, low-some, low-kids, some-trees}
 use Rattle.laws.proofs.HaltsAt.{Begins, begins-longer, begins-later, decide-halts}
 
@@ -90,33 +91,33 @@ module _ (k : Kind) (flags : List ℕ) where
         begin true here rest e = there here rest (stopped (step n at) (λ t. overAll (k .limits) step ns t) (rw (over-here k step n ns at here) at e))
         begin false out rest e = halted-gone out (rest at a p l (rw (over-gone k step n ns at out) at e))
 
-  module _ {P : Node → Type 0} (opens : Open k P) (shape : (n : Node) → P n → Shape n) where
-    choice-halted : (deep : ℕ) (n : Node) → Low opens shape (suc deep) n → cornerInside (k .limits) n ≡ true
-        → ((ns : List Node) → Every (Low opens shape deep) ns → (at a p : ℕ) → at ≤ length flags → overAll (k .limits) (walk deep k flags) ns at .end ≡ stops a p → Halted ns at a p)
+  module _ (v : Proper k) where
+    choice-halted : (deep : ℕ) (n : Node) → Low v (suc deep) n → cornerInside (k .limits) n ≡ true
+        → ((ns : List Node) → Every (Low v deep) ns → (at a p : ℕ) → at ≤ length flags → overAll (k .limits) (walk deep k flags) ns at .end ≡ stops a p → Halted ns at a p)
         → (at a p : ℕ) → at ≤ length flags → (c : Choice) → decide (rightsOf k n) flags at ≡ c
         → enter k n (walk deep k flags) c .end ≡ stops a p → HaltedIn n at a p
     unfolding enter before
     choice-halted deep n q here below at a p l (Refused b r) i e =
         let u : b ≡ a = cc in
-        let v : r ≡ p = cc in
-        let h = decide-halts flags (rightsOf k n) l (rw (u, v) at i) in
-        let kids = some-trees opens shape deep (low-kids opens shape deep n q (h .d) (h .ok)) in
+        let w : r ≡ p = cc in
+        let h = decide-halts flags (rightsOf k n) l (rw (u, w) at i) in
+        let kids = some-trees v deep (low-kids v deep n q (h .d) (h .ok)) in
         record { d = h .d; ok = h .ok; kids = kids; begins = begins-longer flags (flagsOf kids) (h .begins) }
     choice-halted deep n q here below at a p l (Chosen d m) i e =
-        let s = decide-sound flags (rightsOf k n) (opens .edge n (q .0) here) i in
-        let h = below (children (k .limits) n d) (low-kids opens shape deep n q d (s .ok)) m a p (reads-within (s .reads) l) e in
+        let s = decide-sound flags (rightsOf k n) (no-dead-end v (q .0) here) i in
+        let h = below (children (k .limits) n d) (low-kids v deep n q d (s .ok)) m a p (reads-within (s .reads) l) e in
         record { d = d; ok = s .ok; kids = h .trees; begins = begins-later flags (s .reads) (h .begins) }
 
-    node-halted : (deep : ℕ) (n : Node) → Low opens shape deep n → cornerInside (k .limits) n ≡ true → (at a p : ℕ)
+    node-halted : (deep : ℕ) (n : Node) → Low v deep n → cornerInside (k .limits) n ≡ true → (at a p : ℕ)
         → at ≤ length flags → walk deep k flags n at .end ≡ stops a p → HaltedIn n at a p
     unfolding walk
-    node-halted zero n q here at a p l e = low-some opens shape q
+    node-halted zero n q here at a p l e = low-some v q
     node-halted (suc deep) n q here at a p l e =
         choice-halted deep n q here
-        (λ ns. all-halted (Low opens shape deep) (walk deep k flags) (λ ns. some-trees opens shape deep) (λ n q. node-sound k flags P opens deep n (q .0)) (node-halted deep))
+        (λ ns. all-halted (Low v deep) (walk deep k flags) (λ ns. some-trees v deep) (λ n q. node-sound k flags v deep n (q .0)) (node-halted deep))
         at a p l (decide (rightsOf k n) flags at) refl e
 
     -- a walk over good nodes, so many levels deep, that stops
-    pub walk-halted : (deep : ℕ) {ns : List Node} → Every (Low opens shape deep) ns → (at a p : ℕ) → at ≤ length flags
+    pub walk-halted : (deep : ℕ) {ns : List Node} → Every (Low v deep) ns → (at a p : ℕ) → at ≤ length flags
         → overAll (k .limits) (walk deep k flags) ns at .end ≡ stops a p → Halted ns at a p
-    walk-halted deep = all-halted (Low opens shape deep) (walk deep k flags) (λ ns. some-trees opens shape deep) (λ n q. node-sound k flags P opens deep n (q .0)) (node-halted deep)
+    walk-halted deep = all-halted (Low v deep) (walk deep k flags) (λ ns. some-trees v deep) (λ n q. node-sound k flags v deep n (q .0)) (node-halted deep)

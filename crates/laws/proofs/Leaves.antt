@@ -1,5 +1,5 @@
 -- Where rows start and end, by direction: the row of a leaf starts and ends where its node does.
-use Prim.Native.Nat.{ℕ, zero, suc, _+_, _/_, _%_, _^_, _≤_, _<_, min}
+use Prim.Native.Nat.{ℕ, zero, suc, _+_, _/_, _%_, _^_, _<_}
 use mathlib.Core.Path.{_≡_, refl, sym, ap, _∙_}
 use lib.Pow.{pow-add}
 use lib.Count.{trailingZeros}
@@ -11,10 +11,10 @@ use Rattle.tree.specs.declared.Direction.{Direction}
 use Rattle.tree.specs.declared.Direction.the-variants.{Horizontal, Vertical}
 use Rattle.tree.specs.Splits.{pick, along}
 use Rattle.tree.specs.Rows.{Row, rowOf}
-use Rattle.tree.specs.Back.{rightEnd, bottomEnd}
-use Rattle.laws.proofs.Directions.{corner}
+use Rattle.laws.specs.Directions.{corner}
+use Rattle.laws.specs.Shape.{Side, Shape}
 use Rattle.laws.proofs.Slabs.{far}
-use Rattle.laws.proofs.Shape.{Side, side-power, Shape}
+use Rattle.laws.proofs.Shape.{side-power}
 
 -- where a row starts, its side and where it ends, in the dimension that a cut of direction e divides
 abbrev pub rowStart : Direction → Row → ℕ
@@ -27,7 +27,7 @@ abbrev pub rowSide : Direction → Row → ℕ
 rowSide e r = 2 ^ rowExponent e r
 
 abbrev pub rowEnd : Direction → Row → ℕ
-rowEnd e r = pick e (bottomEnd r) (rightEnd r)
+rowEnd e r = rowStart e r + rowSide e r
 
 -- a row that ends at a place
 abbrev pub EndsAt : (Direction → ℕ) → Row → Type 0
@@ -51,26 +51,18 @@ module _ {n : ℕ} (s : Side n) where
   pub side-exponent : exponent n ≡ 2 + s .fold .power
   side-exponent = let b = side-power s in rw side-two (trailing-power 32 (2 + s .fold .power) (omega arith))
 
-  pub exponent-most : exponent n ≤ 7
-  exponent-most = let b = side-power s in let e = side-exponent in omega arith
-
   pub side-is : 2 ^ exponent n ≡ n
   side-is = rw side-exponent (sym side-two)
-
-  pub side-end : 2 ^ min 7 (exponent n) ≡ n
-  side-end = let b = exponent-most in let e : min 7 (exponent n) ≡ exponent n = omega arith in rw e side-is
 
 pub leaf-start : (n : Node) (e : Direction) → rowStart e (rowOf n) ≡ corner e n
 unfolding rowOf
 leaf-start n Horizontal = refl
 leaf-start n Vertical = refl
 
-pub leaf-end : (n : Node) → Shape n → (e : Direction) → rowEnd e (rowOf n) ≡ far e n
-unfolding rowOf
-leaf-end n sh Horizontal = rw (side-end (sh .side Horizontal))
-leaf-end n sh Vertical = rw (side-end (sh .side Vertical))
-
 pub leaf-side : {n : Node} → Shape n → (e : Direction) → rowSide e (rowOf n) ≡ along e n
 unfolding rowOf
 leaf-side sh Horizontal = side-is (sh .side Horizontal)
 leaf-side sh Vertical = side-is (sh .side Vertical)
+
+pub leaf-end : (n : Node) → Shape n → (e : Direction) → rowEnd e (rowOf n) ≡ far e n
+leaf-end n sh e = rw (leaf-start n e, leaf-side sh e)

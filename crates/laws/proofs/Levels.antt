@@ -17,9 +17,11 @@ use Rattle.tree.specs.Children.{child, children}
 use Rattle.tree.specs.Reading.{levelsLeft}
 use Rattle.tree.specs.Tree.{Trees, Tree, none, skip, node}
 use Rattle.laws.specs.Every.{Every, every-none, every-more}
+use Rattle.laws.specs.Proper.{Proper}
+use Rattle.laws.specs.Shape.{Shape}
 use Rattle.laws.proofs.Multiples.{fold-least, four-quarters}
 use Rattle.laws.proofs.Parts.{Piece, every-child, slice}
-use Rattle.laws.proofs.Shape.{side-four, Shape, shape-child}
+use Rattle.laws.proofs.Shape.{side-four, shape-child}
 use Rattle.laws.proofs.Walks.{levels}
 
 -- a node of which both sides together are at most so long
@@ -47,10 +49,10 @@ child-shorter l n sh {d} {p} piece =
     let s = shorter (n .w / 4) (n .h / 4) (p .wide) (p .high) (omega arith) (omega arith) (omega arith) (omega arith) (piece .falls) in
     omega arith
 
-module _ (k : Kind) (cb : 4 ≤ k .limits .mincb) (qt : 4 ≤ k .limits .minqt) where
+module _ {k : Kind} (v : Proper k) where
   kids-under : (c : ℕ) (n : Node) → Under (suc c) n → (d : Decision) → allows (rightsOf k n) d ≡ true → Every (Under c) (children (k .limits) n d)
   kids-under c n u d ok = every-child k n d (λ p piece. record {
-    shape = shape-child k n cb qt (u .shape) d ok p piece;
+    shape = shape-child v (u .shape) d ok p piece;
     size = let s = child-shorter (k .limits) n (u .shape) piece in let b = u .size in omega arith;
   })
 

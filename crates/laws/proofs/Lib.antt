@@ -22,15 +22,14 @@ pub mod First
 pub mod FlagAreas
 pub mod FlagRows
 pub mod Flags
+pub mod Grids
 pub mod Grows
 pub mod Halts
 pub mod HaltsAt
 pub mod Joins
 pub mod Last
-pub mod Leads
 pub mod Leaves
 pub mod Levels
-pub mod Marks
 pub mod Measure
 pub mod Meetings
 pub mod Multiples
@@ -43,7 +42,7 @@ pub mod Parts
 pub mod Picture
 pub mod Pipeline
 pub mod PipelineOrder
-pub mod Reach
+pub mod ProperKinds
 pub mod ReachedNodes
 pub mod Reading
 pub mod Rectangles
@@ -55,8 +54,8 @@ pub mod Shape
 pub mod Sides
 pub mod Sizes
 pub mod Slabs
+pub mod Starts
 pub mod Steps
-pub mod Stops
 pub mod Tables
 pub mod Tests
 pub mod TreeSamples

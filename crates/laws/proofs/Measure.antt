@@ -18,12 +18,14 @@ use Rattle.tree.specs.Children.{shares, child, childrenFrom, children, cornerIn
 use Rattle.tree.specs.Rows.{Row, rowOf, ownRows}
 use Rattle.tree.specs.Tree.{Trees, none, skip, node, rowsOf}
 use Rattle.laws.specs.Every.{Every, every-more}
+use Rattle.laws.specs.Proper.{Proper}
+use Rattle.laws.specs.Directions.{corner, extent}
+use Rattle.laws.specs.Shape.{Shape}
 use Rattle.laws.proofs.Picture.{inside-end}
 use Rattle.laws.proofs.Leaves.{rowStart, rowSide, leaf-start, leaf-side}
-use Rattle.laws.proofs.Directions.{corner, extent}
 use Rattle.laws.proofs.Multiples.{four-quarters}
 use Rattle.laws.proofs.Parts.{from, size, child-along, child-corner}
-use Rattle.laws.proofs.Shape.{Shape, side-four, shape-kids}
+use Rattle.laws.proofs.Shape.{side-four, shape-kids}
 
 -- A measure gives a number to a length from a start on. f is the measure g up to an end: what it gives adds up, past the end it is nothing.
 pub record UpTo (end : ℕ) (g f : ℕ → ℕ → ℕ) : Type 0 where
@@ -91,7 +93,7 @@ rows-append : (g : Direction → ℕ → ℕ → ℕ) (a b : List Row) → ofRow
 rows-append g [] b = omega arith
 rows-append g (r ∷ a) b = let e = rows-append g a b in omega arith
 
-module _ (k : Kind) {g f : Direction → ℕ → ℕ → ℕ} (m : (e : Direction) → UpTo (extent e (k .limits)) (g e) (f e)) where
+module _ {k : Kind} (v : Proper k) {g f : Direction → ℕ → ℕ → ℕ} (m : (e : Direction) → UpTo (extent e (k .limits)) (g e) (f e)) where
   -- a node whose corner is outside the picture measures nothing
   skipped : (n : Node) → cornerInside (k .limits) n ≡ false → ofNode f n ≡ 0
   unfolding cornerInside
@@ -143,12 +145,12 @@ module _ (k : Kind) {g f : Direction → ℕ → ℕ → ℕ} (m : (e : Directio
     own-measure (Ternary d) ok = split-measure (Ternary d) (ternary-tiled d)
 
   -- the rows of trees measure what their nodes do up to the end of the picture
-  pub measured : 4 ≤ k .limits .mincb → 4 ≤ k .limits .minqt → {ns : List Node} (t : Trees k ns) → Every Shape ns → ofRows g (rowsOf t) ≡ ofNodes f ns
+  pub measured : {ns : List Node} (t : Trees k ns) → Every Shape ns → ofRows g (rowsOf t) ≡ ofNodes f ns
   unfolding rowsOf
-  measured cb qt none shs = refl
-  measured cb qt (skip {n = n} out rest) (every-more sh shs) = let e = measured cb qt rest shs in let z = skipped n out in omega arith
-  measured cb qt (node {n = n} d here ok kids rest) (every-more sh shs) =
+  measured none shs = refl
+  measured (skip {n = n} out rest) (every-more sh shs) = let e = measured rest shs in let z = skipped n out in omega arith
+  measured (node {n = n} d here ok kids rest) (every-more sh shs) =
       let a = own-measure n sh d ok in
-      let b = measured cb qt kids (shape-kids k n cb qt sh d ok) in
-      let c = measured cb qt rest shs in
+      let b = measured kids (shape-kids v sh d ok) in
+      let c = measured rest shs in
       rw (rows-append g (ownRows n d ++ rowsOf kids) (rowsOf rest), rows-append g (ownRows n d) (rowsOf kids)) (omega arith)

@@ -5,14 +5,7 @@ use native.Mathlib.Omega.{arith}
 use native.Mathlib.Nat.{mul-le-mul-left, pow-suc, add-sub-of-le, div-add-mod'}
 use native.Mathlib.Decide.{decLt}
 use lib.Pow.{pow-pos, pow-lt, pow-add}
-
-pub record Multiple (m n : ℕ) : Type 0 where
-  pub times : ℕ
-  pub is : n ≡ m * times
-
-pub record Fold (m n : ℕ) : Type 0 where
-  pub power : ℕ
-  pub is : n ≡ m * 2 ^ power
+use Rattle.laws.specs.Multiples.{Multiple, Fold}
 
 pub fold-multiple : {m n : ℕ} → Fold m n → Multiple m n
 fold-multiple f = record { times = 2 ^ f .power; is = f .is }
@@ -42,9 +35,6 @@ same-multiple m = record { times = 1; is = omega arith }
 
 pub trans-multiple : {a b c : ℕ} → Multiple a b → Multiple b c → Multiple a c
 trans-multiple p q = record { times = p .times * q .times; is = q .is ∙ rw (p .is) (omega arith) }
-
-pub trans-fold : {a b c : ℕ} → Fold a b → Fold b c → Fold a c
-trans-fold f g = record { power = f .power + g .power; is = g .is ∙ rw (f .is, pow-add 2 (f .power) (g .power)) (omega arith) }
 
 -- of two powers of two the larger is a fold of the smaller
 pub power-fold : {m n : ℕ} (i j : ℕ) → m ≡ 2 ^ i → n ≡ 2 ^ j → m ≤ n → Fold m n

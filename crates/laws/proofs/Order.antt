@@ -2,9 +2,9 @@
 -- ends at its opposite corner. In any kind.
 use Prim.Native.Nat.{ℕ, _+_, _*_, _/_, _≤_, _<_}
 use mathlib.Core.Path.{_≡_, refl, _∙_}
-use mathlib.Core.Bool.{Bool, true, false}
+use mathlib.Core.Bool.{true}
 use mathlib.Core.List.{List, _++_, append-nil}
-use borrow.Author.Tests.{lt-ltb, ltb-false}
+use borrow.Author.Tests.{lt-ltb}
 use native.Mathlib.Omega.{arith}
 use Rattle.sides.proofs.Bools.{clash, and-intro}
 use Rattle.tree.specs.declared.Limits.{Limits}
@@ -15,20 +15,22 @@ use Rattle.tree.specs.declared.Direction.the-variants.{Horizontal, Vertical}
 use Rattle.tree.specs.declared.Decision.{Decision}
 use Rattle.tree.specs.declared.Decision.the-variants.{Leaf, Quad, Binary, Ternary}
 use Rattle.tree.specs.Kind.{Kind}
-use Rattle.tree.specs.Splits.{along, inside, outAlong, rightsOf, allows}
+use Rattle.tree.specs.Splits.{along, inside, rightsOf, allows}
 use Rattle.tree.specs.Children.{share, slab, shares, child, childrenFrom, children, cornerInside}
 use Rattle.tree.specs.Rows.{Row, rowOf, ownRows}
 use Rattle.tree.specs.Tree.{Trees, Tree, none, skip, node, rowsOf}
 use Rattle.laws.specs.Every.{Every, every-none, every-more}
-use Rattle.laws.proofs.Picture.{out-any}
+use Rattle.laws.specs.Proper.{Proper}
+use Rattle.laws.specs.Directions.{corner, extent}
+use Rattle.laws.specs.Shape.{Shape}
+use Rattle.laws.proofs.Picture.{inside-end}
 use Rattle.laws.proofs.Leaves.{rowStart, rowEnd, EndsAt, leaf-start, leaf-end}
 use Rattle.laws.proofs.Last.{Last, last, later, last-after, last-both}
 use Rattle.laws.proofs.Every.{every-join}
-use Rattle.laws.proofs.Directions.{corner, extent}
 use Rattle.laws.proofs.Multiples.{fold-least, four-quarters}
 use Rattle.laws.proofs.Parts.{from, size, every-child, child-corner, child-along, child-end}
 use Rattle.laws.proofs.Slabs.{far, by-way, from-along, size-along, from-across, size-across}
-use Rattle.laws.proofs.Shape.{side-four, Shape, shape-child}
+use Rattle.laws.proofs.Shape.{side-four, shape-child}
 use Rattle.laws.proofs.First.{First, first-row}
 
 -- ---- all rows
@@ -42,10 +44,10 @@ pub record Within (b : Node) (r : Row) : Type 0 where
   pub starts : (e : Direction) → corner e b ≤ rowStart e r
   pub ends : (e : Direction) → rowEnd e r ≤ far e b
 
-module _ (k : Kind) (cb : 4 ≤ k .limits .mincb) (qt : 4 ≤ k .limits .minqt) (b : Node) where
+module _ {k : Kind} (v : Proper k) (b : Node) where
   kids-inner : (n : Node) (d : Decision) → allows (rightsOf k n) d ≡ true → Shape n → Inner b n → Every (λ c. Shape c × Inner b c) (children (k .limits) n d)
   kids-inner n d ok sh i = every-child k n d (λ p piece. (
-    shape-child k n cb qt sh d ok p piece,
+    shape-child v sh d ok p piece,
     record {
       starts = λ e. let a = child-corner (k .limits) n d p e in let s = i .starts e in omega arith;
       ends = λ e. let a = child-end (k .limits) n piece e (side-four (sh .side e)) in let s = i .ends e in omega arith;
@@ -84,16 +86,8 @@ fits-there l n f = and-intro _ _ (lt-ltb _ _ (short Vertical)) (lt-ltb _ _ (shor
     short : (e : Direction) → corner e n < extent e l
     short e = let a = fold-least (f .shape .side e .fold) in let b = f .ends e in omega arith
 
-not-past : (l : Limits) (n : Node) (e : Direction) → outAlong e l n ≡ false → far e n ≤ extent e l
-not-past l n Horizontal o = ltb-false _ _ o
-not-past l n Vertical o = ltb-false _ _ o
-
 pub inside-fits : (l : Limits) (n : Node) → Shape n → inside l n ≡ true → Fits l n
-inside-fits l n sh h = record { shape = sh; ends = λ e. within e (outAlong e l n) refl }
-  where
-    within : (e : Direction) (b : Bool) → outAlong e l n ≡ b → far e n ≤ extent e l
-    within e true o = clash h (out-any l n e o)
-    within e false o = not-past l n e o
+inside-fits l n sh h = record { shape = sh; ends = inside-end l n h }
 
 -- the last part of a split takes all quarters that are left
 quad-ends : (e : Direction) → from e (share 2 2 2 2 3) + size e (share 2 2 2 2 3) ≡ 4
@@ -110,10 +104,10 @@ unfolding childrenFrom
 last-child l n d f (last {a = p} q) = last (f p q)
 last-child l n d f (later q) = later (last-child l n d f q)
 
-module _ (k : Kind) (cb : 4 ≤ k .limits .mincb) (qt : 4 ≤ k .limits .minqt) where
+module _ {k : Kind} (v : Proper k) where
   pub fits-kids : (n : Node) (d : Decision) → allows (rightsOf k n) d ≡ true → Fits (k .limits) n → Every (Fits (k .limits)) (children (k .limits) n d)
   fits-kids n d ok f = every-child k n d (λ p piece. record {
-    shape = shape-child k n cb qt (f .shape) d ok p piece;
+    shape = shape-child v (f .shape) d ok p piece;
     ends = λ e. let a = child-end (k .limits) n piece e (side-four (f .shape .side e)) in let b = f .ends e in omega arith;
   })
 
@@ -156,12 +150,12 @@ pub record InOrder (l : Limits) (n : Node) (rows : List Row) : Type 0 where
   pub within : Every (Within n) rows
   pub last : inside l n ≡ true → Last (EndsAt (λ e. far e n)) rows
 
-module _ (k : Kind) (cb : 4 ≤ k .limits .mincb) (qt : 4 ≤ k .limits .minqt) (n : Node) (t : Tree k n) where
+module _ {k : Kind} (v : Proper k) (n : Node) (t : Tree k n) where
   pub tree-within : Shape n → Every (Within n) (rowsOf t)
-  tree-within sh = rows-within k cb qt n t (every-more (sh, record { starts = λ e. omega arith; ends = λ e. omega arith }) every-none)
+  tree-within sh = rows-within v n t (every-more (sh, record { starts = λ e. omega arith; ends = λ e. omega arith }) every-none)
 
   pub tree-last : Fits (k .limits) n → Last (EndsAt (λ e. far e n)) (rowsOf t)
-  tree-last f = last-row k cb qt (λ e. far e n) t (last (f, λ e. refl))
+  tree-last f = last-row v (λ e. far e n) t (last (f, λ e. refl))
 
   pub tree-in-order : Shape n → cornerInside (k .limits) n ≡ true → InOrder (k .limits) n (rowsOf t)
   tree-in-order sh here = record { first = first-row t here; within = tree-within sh; last = λ i. tree-last (inside-fits (k .limits) n sh i) }

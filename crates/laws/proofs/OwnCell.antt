@@ -1,5 +1,5 @@
 -- A coding tree whose node is one cell: while its rows come, each lies in the cell; after the last one, all of its samples are there.
-use Prim.Native.Nat.{ℕ, _+_, _*_, _/_, _≤_, _<_, min}
+use Prim.Native.Nat.{ℕ, _+_, _*_, _/_, _≤_, _<_}
 use mathlib.Core.Path.{_≡_, refl, sym, _∙_}
 use mathlib.Core.List.{[]}
 use lib.ListN.{length, take, drop, drop-of-length-le}
@@ -17,11 +17,13 @@ use Rattle.tree.specs.Tree.{Tree, rowsOf}
 use Rattle.laws.specs.Geometry.{copies}
 use Rattle.laws.specs.Every.{Every}
 use Rattle.laws.specs.CellOrder.{RowIn, Begun, Full, RowAt}
+use Rattle.laws.specs.Proper.{Proper}
+use Rattle.laws.specs.Directions.{corner}
+use Rattle.laws.specs.Multiples.{Multiple}
+use Rattle.laws.specs.Shape.{Shape}
 use Rattle.laws.proofs.Every.{every-map, every-both}
-use Rattle.laws.proofs.Directions.{corner}
-use Rattle.laws.proofs.Multiples.{Multiple, fold-least}
-use Rattle.laws.proofs.Shape.{Shape}
-use Rattle.laws.proofs.Leaves.{rowStart}
+use Rattle.laws.proofs.Multiples.{fold-least}
+use Rattle.laws.proofs.Leaves.{rowStart, rowExponent}
 use Rattle.laws.proofs.Order.{Within, tree-within}
 use Rattle.laws.proofs.Rectangles.{Between}
 use Rattle.laws.proofs.Copies.{copies-zero, copies-parts}
@@ -56,7 +58,7 @@ module _ {c a : ℕ} (some : 0 < c) (m : Multiple c a) (p : ℕ) where
 
 -- ---- a square at a multiple of its side
 
-module _ (k : Kind) (cb : 4 ≤ k .limits .mincb) (qt : 4 ≤ k .limits .minqt) {n : Node} (sh : Shape n) (square : n .w ≡ n .h)
+module _ {k : Kind} (v : Proper k) {n : Node} (sh : Shape n) (square : n .w ≡ n .h)
     (at : (e : Direction) → Multiple (along e n) (corner e n)) (t : Tree k n) where
   side : (e : Direction) → along e n ≡ n .w
   side Horizontal = sym square
@@ -72,13 +74,12 @@ module _ (k : Kind) (cb : 4 ≤ k .limits .mincb) (qt : 4 ≤ k .limits .minqt) 
   same-cell e p b = to-cell some-side (at-side e) p (rw (side e) at b)
 
   from-corner : (r : Row) → Within n r → (e : Direction) → Between (corner e n) (along e n) (rowStart e r)
-  from-corner r w Horizontal = let p = pow-pos (min 7 (r .eh)) in let e = w .ends Horizontal in record { low = w .starts Horizontal; high = omega arith }
-  from-corner r w Vertical = let p = pow-pos (min 7 (r .ew)) in let e = w .ends Vertical in record { low = w .starts Vertical; high = omega arith }
+  from-corner r w e = let p = pow-pos (rowExponent e r) in let i = w .ends e in record { low = w .starts e; high = omega arith }
 
   rows-in : Every (RowIn (n .w) (n .x / n .w) (n .y / n .w)) (rowsOf t)
   rows-in =
       every-map (λ r i. record { one = i .0; corner = (same-cell Vertical (r .x) (from-corner r (i .1) Vertical), same-cell Horizontal (r .y) (from-corner r (i .1) Horizontal)) })
-      (every-both (in-one k cb qt sh square at t (n .w) (sh .side Vertical .fold) (omega arith)) (tree-within k cb qt n t sh))
+      (every-both (in-one v sh square at t (n .w) (sh .side Vertical .fold) (omega arith)) (tree-within v n t sh))
 
   module _ (across down next : ℕ) (out : ¬ RowAt (RowIn (n .w) across down) (rowsOf t) next)
       (b : Begun (n .w) across down (take next (rowsOf t))) where
@@ -86,7 +87,7 @@ module _ (k : Kind) (cb : 4 ≤ k .limits .mincb) (qt : 4 ≤ k .limits .minqt) 
     this-cell =
         let s = b .there in
         let e = copies-parts (b .px) (b .py) next (rowsOf t) in
-        let i = in-node k cb qt sh t (b .px) (b .py) (omega arith) in
+        let i = in-node v sh t (b .px) (b .py) (omega arith) in
         (sym (same-cell Vertical (b .px) (i .0)) ∙ b .sample .0, sym (same-cell Horizontal (b .py) (i .1)) ∙ b .sample .1)
 
     at-end : length (rowsOf t) ≤ next
@@ -101,7 +102,7 @@ module _ (k : Kind) (cb : 4 ≤ k .limits .mincb) (qt : 4 ≤ k .limits .minqt) 
         let c = this-cell in
         let x = from-cell some-side (at-side Vertical) qx (q .0 ∙ sym (c .0)) in
         let y = from-cell some-side (at-side Horizontal) qy (q .1 ∙ sym (c .1)) in
-        let e = tree-all k cb qt sh t qx qy x (rw (← square) y) (omega arith) (omega arith) in
+        let e = tree-all v sh t qx qy x (rw (← square) y) (omega arith) (omega arith) in
         let s = copies-parts qx qy next (rowsOf t) in
         let d : copies qx qy (drop next (rowsOf t)) ≡ 0 = rw (drop-of-length-le (rowsOf t) at-end) (copies-zero qx qy []) in
         omega arith

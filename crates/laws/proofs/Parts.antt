@@ -15,8 +15,9 @@ use Rattle.tree.specs.Kind.{Kind}
 use Rattle.tree.specs.Splits.{pick, along}
 use Rattle.tree.specs.Children.{shares, child, childrenFrom, children}
 use Rattle.laws.specs.Every.{Every, every-none, every-more}
-use Rattle.laws.proofs.Directions.{corner}
-use Rattle.laws.proofs.Multiples.{Multiple, Fold, fold-multiple, add-multiple, multiple-times, mod-multiple, trans-multiple, four-quarters, quarters, fold-share}
+use Rattle.laws.specs.Directions.{corner}
+use Rattle.laws.specs.Multiples.{Multiple, Fold}
+use Rattle.laws.proofs.Multiples.{fold-multiple, add-multiple, multiple-times, mod-multiple, trans-multiple, four-quarters, quarters, fold-share}
 
 -- a share's start and length, in the dimension that a cut of direction e divides
 abbrev pub from : Direction → Share → ℕ

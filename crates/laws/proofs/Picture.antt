@@ -15,10 +15,10 @@ use Rattle.tree.specs.declared.Decision.{Decision}
 use Rattle.tree.specs.Kind.{Kind}
 use Rattle.tree.specs.Splits.{along, rightOut, bottomOut, inside, outAlong, closedAcross, closedCorner}
 use Rattle.tree.specs.Children.{child, cornerInside}
+use Rattle.laws.specs.Directions.{corner, extent}
+use Rattle.laws.specs.Multiples.{Multiple}
 use Rattle.laws.proofs.Tests.{never, fails}
-use Rattle.laws.proofs.Directions.{corner, extent}
-use Rattle.laws.proofs.Multiples.{Multiple}
-use Rattle.laws.proofs.Parts.{Piece, child-end, child-under}
+use Rattle.laws.proofs.Parts.{Piece, child-corner, child-end, child-under}
 
 pub starts-in : (k : Kind) (n : Node) → cornerInside (k .limits) n ≡ true → (e : Direction) → corner e n < extent e (k .limits)
 unfolding cornerInside
@@ -70,6 +70,14 @@ module _ (l : Limits) (n : Node) where
       go true b h o = refl
       go false true h o = never h
       go false false h o = never o
+
+-- where the corner of a part is in the picture, that of its node is
+pub child-here : (k : Kind) (n : Node) (d : Decision) (p : Share) → cornerInside (k .limits) (child (k .limits) n d p) ≡ true → cornerInside (k .limits) n ≡ true
+unfolding cornerInside
+child-here k n d p here = and-intro _ _ (lt-ltb _ _ (starts Vertical)) (lt-ltb _ _ (starts Horizontal))
+  where
+    starts : (e : Direction) → corner e n < extent e (k .limits)
+    starts e = let a = starts-in k (child (k .limits) n d p) here e in let b = child-corner (k .limits) n d p e in omega arith
 
 -- where a part is out, its node is
 module _ (l : Limits) (n : Node) {d : Decision} {p : Share} (piece : Piece d p) (by-four : (e : Direction) → Multiple 4 (along e n)) where

@@ -6,28 +6,32 @@ use mathlib.Core.Bool.{true, false}
 use borrow.Author.Tests.{ltb-false, le-leb}
 use native.Mathlib.Omega.{arith}
 use native.Mathlib.Decide.{decLt}
-use Rattle.tree.specs.declared.Limits.{Limits}
 use Rattle.tree.specs.declared.Node.{Node}
 use Rattle.tree.specs.declared.Direction.{Direction}
 use Rattle.tree.specs.declared.Direction.the-variants.{Horizontal, Vertical}
 use Rattle.tree.specs.declared.Decision.{Decision}
 use Rattle.tree.specs.declared.Decision.the-variants.{Leaf, Quad, Binary, Ternary}
-use Rattle.tree.specs.Kind.{Kind, luma}
+use Rattle.tree.specs.Kind.{Kind}
 use Rattle.tree.specs.Splits.{along, across, closedNarrow, rightsOf, allows}
 use Rattle.tree.specs.Children.{children}
 use Rattle.tree.specs.Rows.{rowOf}
 use Rattle.tree.specs.Tree.{Tree, rowsOf}
 use Rattle.laws.specs.Geometry.{InOneCell, OfWholeCells, InPipeline, pipelineSide}
 use Rattle.laws.specs.Every.{Every, every-none, every-more}
+use Rattle.laws.specs.Proper.{Proper}
+use Rattle.laws.specs.Directions.{corner}
+use Rattle.laws.specs.Good.{Grid}
+use Rattle.laws.specs.Multiples.{Multiple, Fold}
+use Rattle.laws.specs.Shape.{Shape}
 use Rattle.laws.proofs.Leaves.{leaf-start, leaf-side}
 use Rattle.laws.proofs.EveryRow.{every-row}
 use Rattle.laws.proofs.Every.{every-map}
-use Rattle.laws.proofs.Directions.{corner, both-sides}
-use Rattle.laws.proofs.Multiples.{Multiple, Fold, fold-multiple, fold-least, trans-multiple}
-use Rattle.laws.proofs.Opens.{luma-may, quad-open, binary-open, ternary-open}
-use Rattle.laws.proofs.Parts.{least, cutLeast, every-child, child-fold, child-start}
-use Rattle.laws.proofs.Shape.{Shape, shape-child}
-use Rattle.laws.proofs.Edge.{Grid}
+use Rattle.laws.proofs.Directions.{both-sides}
+use Rattle.laws.proofs.Multiples.{fold-multiple, fold-least, trans-multiple}
+use Rattle.laws.proofs.Opens.{quad-open, binary-open, ternary-open}
+use Rattle.laws.proofs.Parts.{least, every-child}
+use Rattle.laws.proofs.Shape.{square-room, cut-room, shape-child}
+use Rattle.laws.proofs.Grids.{grid-child}
 use Rattle.laws.proofs.Cells.{InOne, larger-fold, small-in-one, one-kids, one-leaf, in-one-cell}
 
 fold-64 : Fold 4 64
@@ -71,22 +75,11 @@ module _ (n : Node) (w : Whole n) where
             let m = either d in
             absurd (omega arith)
 
-    square-room : n .w ≡ n .h → (e : Direction) → 64 * 2 < along e n * 2
-    square-room s Horizontal = omega arith
-    square-room s Vertical = omega arith
-
-    cut-room : (d : Direction) → 64 < along d n → (e : Direction) → 64 * 2 < along e n * cutLeast 2 d e
-    cut-room Horizontal h Horizontal = omega arith
-    cut-room Horizontal h Vertical = let l = fold-least (w .grid .side Vertical) in omega arith
-    cut-room Vertical h Horizontal = let l = fold-least (w .grid .side Horizontal) in omega arith
-    cut-room Vertical h Vertical = omega arith
-
-    whole-room : (l : Limits) (d : Decision) → allows (rightsOf (luma l) n) d ≡ true → (e : Direction) → 64 * 2 < along e n * least d e
-    unfolding rightsOf
-    whole-room l Leaf ok e = let h = fold-least (w .grid .side e) in omega arith
-    whole-room l Quad ok e = square-room (w .shape .square (quad-open l n ok .top)) e
-    whole-room l (Binary d) ok e = cut-room d (cut-long d (binary-open l n d ok .narrow)) e
-    whole-room l (Ternary d) ok e = let a = ternary-open l n d ok .tt in let b = a Vertical in let c = a Horizontal in absurd (omega arith)
+    whole-room : (k : Kind) (d : Decision) → allows (rightsOf k n) d ≡ true → (e : Direction) → 64 * 2 < along e n * least d e
+    whole-room k Leaf ok e = let h = fold-least (w .grid .side e) in omega arith
+    whole-room k Quad ok e = let s = w .shape .square (quad-open k n ok .top) in square-room 64 n s (omega arith) e
+    whole-room k (Binary d) ok e = let h = cut-long d (binary-open k n d ok .narrow) in cut-room 64 n (omega arith) (λ e. fold-least (w .grid .side e)) 2 d (omega arith) e
+    whole-room k (Ternary d) ok e = let a = ternary-open k n d ok .tt in let b = a Vertical in let c = a Horizontal in absurd (omega arith)
 
   pub whole-leaf : OfWholeCells 64 (rowOf n)
   whole-leaf = record {
@@ -118,29 +111,26 @@ square-whole {n} sh square at h = record { shape = sh; grid = record { side = si
 abbrev Placed : Node → Type 0
 Placed n = InOne 64 n ⊎ Whole n
 
-module _ (k : Kind) (cb : 4 ≤ k .limits .mincb) (qt : 4 ≤ k .limits .minqt) where
+module _ {k : Kind} (v : Proper k) where
   pub whole-kids : (n : Node) → Whole n → 64 < max (n .w) (n .h) → (d : Decision) → allows (rightsOf k n) d ≡ true → Every Whole (children (k .limits) n d)
-  whole-kids n w long d ok = let room = whole-room n w long (k .limits) d (luma-may k n d ok) in every-child k n d (λ p piece. record {
-    shape = shape-child k n cb qt (w .shape) d ok p piece;
-    grid = record {
-      side = λ e. child-fold (k .limits) n piece e (fold-multiple fold-64) (w .grid .side e) (room e);
-      at = λ e. child-start (k .limits) n piece e (fold-multiple fold-64) (w .grid .side e) (room e) (w .grid .at e);
-    };
+  whole-kids n w long d ok = let room = whole-room n w long k d ok in every-child k n d (λ p piece. record {
+    shape = shape-child v (w .shape) d ok p piece;
+    grid = grid-child (k .limits) (fold-multiple fold-64) (w .grid) piece room;
   })
 
   placed-kids : (n : Node) → Placed n → (d : Decision) → allows (rightsOf k n) d ≡ true → Every Placed (children (k .limits) n d)
-  placed-kids n (inl i) d ok = every-map (λ c. inl) (one-kids k cb qt 64 (omega arith) n i d ok)
+  placed-kids n (inl i) d ok = every-map (λ c. inl) (one-kids v 64 (omega arith) n i d ok)
   placed-kids n (inr w) d ok = go (decLt 64 (max (n .w) (n .h)))
     where
       go : Dec (64 < max (n .w) (n .h)) → Every Placed (children (k .limits) n d)
       go (yes long) = every-map (λ c. inr) (whole-kids n w long d ok)
-      go (no long) = every-map (λ c. inl) (one-kids k cb qt 64 (omega arith) n (whole-one n w (omega arith) (omega arith)) d ok)
+      go (no long) = every-map (λ c. inl) (one-kids v 64 (omega arith) n (whole-one n w (omega arith) (omega arith)) d ok)
 
   placed-leaf : (n : Node) → Placed n → InPipeline 64 (rowOf n)
-  placed-leaf n (inl i) = inl (one-leaf k cb qt 64 (omega arith) n i)
+  placed-leaf n (inl i) = inl (one-leaf v 64 (omega arith) n i)
   placed-leaf n (inr w) = inr (whole-leaf n w)
 
-  -- ---- a square at a multiple of its side, as a unit is
+  -- ---- the tree of a square at a multiple of its side, as a unit is
 
   module _ {n : Node} (sh : Shape n) (square : n .w ≡ n .h) (at : (e : Direction) → Multiple (along e n) (corner e n)) (t : Tree k n) where
     root-placed : Dec (64 < n .w) → Placed n
@@ -149,7 +139,7 @@ module _ (k : Kind) (cb : 4 ≤ k .limits .mincb) (qt : 4 ≤ k .limits .minqt) 
 
     -- inside one cell, of any power of two from the square's side on
     pub in-one : (c : ℕ) → Fold 4 c → n .w ≤ c → Every (InOneCell c) (rowsOf t)
-    in-one c f le = let l = fold-least f in in-one-cell k cb qt c (omega arith) (small-in-one f sh at (both-sides n le (omega arith))) t
+    in-one c f le = let l = fold-least f in in-one-cell v c (omega arith) (small-in-one f sh at (both-sides n le (omega arith))) t
 
     -- in cells of 64
     in-64 : Every (InPipeline 64) (rowsOf t)

@@ -18,9 +18,11 @@ use Rattle.tree.specs.Tree.{Trees, Tree, none, node, rowsOf}
 use Rattle.laws.specs.Geometry.{copies, OfWholeCells, pipelineSide}
 use Rattle.laws.specs.Every.{Every, every-none, every-more}
 use Rattle.laws.specs.CellOrder.{CellByCell}
-use Rattle.laws.proofs.Directions.{corner}
-use Rattle.laws.proofs.Multiples.{Multiple, fold-least}
-use Rattle.laws.proofs.Shape.{Shape}
+use Rattle.laws.specs.Proper.{Proper}
+use Rattle.laws.specs.Directions.{corner}
+use Rattle.laws.specs.Multiples.{Multiple}
+use Rattle.laws.specs.Shape.{Shape}
+use Rattle.laws.proofs.Multiples.{fold-least}
 use Rattle.laws.proofs.Joins.{Joins, own-joined, tree-joined}
 use Rattle.laws.proofs.Rectangles.{rectangle-in, in-rectangle}
 use Rattle.laws.proofs.Copies.{inRow, copies-none}
@@ -58,7 +60,7 @@ module _ (width height : ℕ) {r : Row} (w : OfWholeCells 64 r) where
     };
   }
 
-module _ (k : Kind) (cb : 4 ≤ k .limits .mincb) (qt : 4 ≤ k .limits .minqt) where
+module _ {k : Kind} (v : Proper k) where
   -- ---- a node of whole cells
 
   abbrev Filled64 : List Row → Type 0
@@ -73,7 +75,7 @@ module _ (k : Kind) (cb : 4 ≤ k .limits .mincb) (qt : 4 ≤ k .limits .minqt) 
       let a = fold-least (w .grid .side Vertical) in
       let b = fold-least (w .grid .side Horizontal) in
       let e : n .w ≡ 64 = omega arith in
-      subst (λ c. FilledIfOnce (k .limits .width) (k .limits .height) c (rowsOf t)) e (own-filled k cb qt (w .shape) (omega arith) (at (omega arith) (omega arith)) t)
+      subst (λ c. FilledIfOnce (k .limits .width) (k .limits .height) c (rowsOf t)) e (own-filled v (w .shape) (omega arith) (at (omega arith) (omega arith)) t)
     where
       at : n .w ≡ 64 → n .h ≡ 64 → (e : Direction) → Multiple (along e n) (corner e n)
       at x y Horizontal = rw y (w .grid .at Horizontal)
@@ -86,7 +88,7 @@ module _ (k : Kind) (cb : 4 ≤ k .limits .mincb) (qt : 4 ≤ k .limits .minqt) 
   node-filled n w d here ok kids below = go (decLt 64 (max (n .w) (n .h)))
     where
       go : Dec (64 < max (n .w) (n .h)) → Filled64 (ownRows n d ++ rowsOf kids)
-      go (yes long) = joins .join (own-joined k joins n (λ i. row-filled _ _ (whole-leaf n w)) d ok) (below (whole-kids k cb qt n w long d ok))
+      go (yes long) = joins .join (own-joined k joins n (λ i. row-filled _ _ (whole-leaf n w)) d ok) (below (whole-kids v n w long d ok))
       go (no long) = rw append-nil at (one-filled n w (omega arith) (node d here ok kids none))
 
   -- ---- a square at a multiple of its side, as a unit is
@@ -97,8 +99,8 @@ module _ (k : Kind) (cb : 4 ≤ k .limits .mincb) (qt : 4 ≤ k .limits .minqt) 
       where
         go : Dec (64 < n .w) → FilledIfOnce (k .limits .width) (k .limits .height) (pipelineSide (n .w)) (rowsOf t)
         go (yes h) = rw (side-from-64 (n .w) (omega arith)) (tree-joined k joins node-filled t (every-more (square-whole sh square at h) every-none))
-        go (no h) = rw (side-to-64 (n .w) (omega arith)) (own-filled k cb qt sh square at t)
+        go (no h) = rw (side-to-64 (n .w) (omega arith)) (own-filled v sh square at t)
 
     -- R-14's law of one tree
     pub tree-cell-by-cell : {side : ℕ} → side ≡ pipelineSide (n .w) → CellByCell side (k .limits .width) (k .limits .height) (rowsOf t)
-    tree-cell-by-cell e = rw e (cell-by-cell _ _ _ (tree-once k cb qt sh t) tree-filled)
+    tree-cell-by-cell e = rw e (cell-by-cell _ _ _ (tree-once v sh t) tree-filled)

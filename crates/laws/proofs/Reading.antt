@@ -7,22 +7,21 @@ use mathlib.Core.List.{List, [], _∷_}
 use mathlib.Core.Logic.{_↔_}
 use lib.ListN.{length}
 use native.Mathlib.Omega.{arith}
-use Rattle.tree.specs.declared.Limits.{Limits}
 use Rattle.tree.specs.declared.Node.{Node}
-use Rattle.tree.specs.Kind.{Kind, luma}
+use Rattle.tree.specs.Kind.{Kind}
 use Rattle.tree.specs.Children.{cornerInside}
 use Rattle.tree.specs.Rows.{Row}
 use Rattle.tree.specs.Run.{stops}
 use Rattle.tree.specs.Reading.{levelsLeft, walk, readNode}
 use Rattle.tree.specs.Tree.{Tree, flagsOf}
 use Rattle.laws.specs.Every.{every-none, every-more}
+use Rattle.laws.specs.Proper.{Proper}
+use Rattle.laws.specs.Good.{Good}
 use Rattle.laws.proofs.Bytes.{Reads}
 use Rattle.laws.proofs.Runs.{gives, over-one}
-use Rattle.laws.proofs.Walks.{walkAll, Open, Grown, walk-complete, walk-sound}
-use Rattle.laws.proofs.Shape.{Shape}
+use Rattle.laws.proofs.Walks.{walkAll, Grown, walk-complete, walk-sound}
 use Rattle.laws.proofs.Halts.{Halted, walk-halted}
 use Rattle.laws.proofs.Levels.{levels-left}
-use Rattle.laws.proofs.Edge.{Valid, Good, edge-opens}
 use Rattle.laws.proofs.Unique.{alone}
 
 pub record ReadingIsTree (k : Kind) (n : Node) : Type 0 where
@@ -30,30 +29,22 @@ pub record ReadingIsTree (k : Kind) (n : Node) : Type 0 where
   pub only : (flags : List ℕ) (t u : Tree k n) (at to end : ℕ) → Reads flags at (flagsOf t) to → Reads flags at (flagsOf u) end → (t ≡ u) × (to ≡ end)
   pub halted : (flags : List ℕ) (at a p : ℕ) → at ≤ length flags → readNode k flags n at .end ≡ stops a p → Halted k flags (n ∷ []) at a p
 
--- in any kind whose walks meet no dead end
-module _ {k : Kind} {P : Node → Type 0} (opens : Open k P) (shape : (n : Node) → P n → Shape n) (cb : 4 ≤ k .limits .mincb) (qt : 4 ≤ k .limits .minqt) where
-  pub kind-reading : {n : Node} → P n → cornerInside (k .limits) n ≡ true → n .w + n .h + n .qt + n .mtt ≤ 256 → ReadingIsTree k n
-  kind-reading {n} p here fits = record {
+module _ {k : Kind} {n : Node} (v : Proper k) (g : Good (k .limits) n) (here : cornerInside (k .limits) n ≡ true) (fits : n .w + n .h + n .qt + n .mtt ≤ 256) where
+  one : (flags : List ℕ) (at : ℕ) → walkAll k flags (levelsLeft n) (n ∷ []) at ≡ readNode k flags n at
+  one flags at = over-one k (walk (levelsLeft n) k flags) n at here
+
+  grown : (flags : List ℕ) (at : ℕ) (rows : List Row) (to : ℕ) → readNode k flags n at ≡ gives rows to → Grown k flags (n ∷ []) at rows to
+  grown flags at rows to e =
+      rw (ap (λ r. r .given) (one flags at ∙ e)) at (walk-sound k flags v (levelsLeft n) (every-more g every-none) at to (ap (λ r. r .end) (one flags at ∙ e)))
+
+  given : (flags : List ℕ) (at : ℕ) (rows : List Row) (to : ℕ) → Grown k flags (n ∷ []) at rows to → readNode k flags n at ≡ gives rows to
+  given flags at rows to t =
+      sym (one flags at) ∙ walk-complete k flags (levelsLeft n) (t .trees) (levels-left v n (g .shape) fits (t .trees)) (t .reads) ∙ ap (λ r. gives r to) (t .same)
+
+  pub reading-is-tree : ReadingIsTree k n
+  reading-is-tree = record {
     exactly = λ flags at rows to. (grown flags at rows to, given flags at rows to);
     only = λ flags t. alone flags t;
-    halted = λ flags at a q l e.
-        walk-halted k flags opens shape (levelsLeft n) (every-more (p, omega arith) every-none) at a q l (ap (λ r. r .end) (one flags at) ∙ e);
+    halted = λ flags at a p l e.
+        walk-halted k flags v (levelsLeft n) (every-more (g, omega arith) every-none) at a p l (ap (λ r. r .end) (one flags at) ∙ e);
   }
-    where
-      one : (flags : List ℕ) (at : ℕ) → walkAll k flags (levelsLeft n) (n ∷ []) at ≡ readNode k flags n at
-      one flags at = over-one k (walk (levelsLeft n) k flags) n at here
-
-      grown : (flags : List ℕ) (at : ℕ) (rows : List Row) (to : ℕ) → readNode k flags n at ≡ gives rows to → Grown k flags (n ∷ []) at rows to
-      grown flags at rows to e =
-          rw (ap (λ r. r .given) (one flags at ∙ e)) at (walk-sound k flags P opens (levelsLeft n) (every-more p every-none) at to (ap (λ r. r .end) (one flags at ∙ e)))
-
-      given : (flags : List ℕ) (at : ℕ) (rows : List Row) (to : ℕ) → Grown k flags (n ∷ []) at rows to → readNode k flags n at ≡ gives rows to
-      given flags at rows to t =
-          sym (one flags at) ∙ walk-complete k flags (levelsLeft n) (t .trees) (levels-left k cb qt n (shape n p) fits (t .trees)) (t .reads) ∙ ap (λ r. gives r to) (t .same)
-
--- in the luma kind
-pub reading-is-tree : {l : Limits} {n : Node} → Valid l → Good l n → cornerInside l n ≡ true → n .w + n .h + n .qt + n .mtt ≤ 256 → ReadingIsTree (luma l) n
-reading-is-tree {l} v g here fits =
-    let a = v .leastCb in
-    let b = v .leQt in
-    kind-reading (edge-opens l v) (λ n g. g .shape) a (omega arith) g here fits

@@ -1,6 +1,6 @@
 -- `sameRow` tests whether two rows are equal.
 use mathlib.Core.Path.{_≡_, refl}
-use mathlib.Core.Bool.{true, _&&_}
+use mathlib.Core.Bool.{Bool, true, false, _&&_}
 use lib.Dec.{eqb}
 use borrow.Author.Tests.{eqb-true, eq-eqb}
 use Rattle.sides.proofs.Bools.{and-left, and-right}
@@ -26,3 +26,10 @@ same-row a b h =
       qt = eqb-true (a .qt) (b .qt) (and-right (eqb (a .x) (b .x) && eqb (a .y) (b .y) && eqb (a .ew) (b .ew) && eqb (a .eh) (b .eh)) _ five) i;
       mtt = eqb-true (a .mtt) (b .mtt) (and-right (eqb (a .x) (b .x) && eqb (a .y) (b .y) && eqb (a .ew) (b .ew) && eqb (a .eh) (b .eh) && eqb (a .qt) (b .qt)) _ h) i;
     }
+
+pub other-row : (a b : Row) → ¬ (a ≡ b) → sameRow a b ≡ false
+other-row a b differs = go (sameRow a b) refl
+  where
+    go : (s : Bool) → sameRow a b ≡ s → s ≡ false
+    go true e = absurd (differs (same-row a b e))
+    go false e = refl

@@ -4,7 +4,8 @@ use mathlib.Core.Path.{_≡_}
 use mathlib.Core.Bool.{Bool, true, _&&_}
 use native.Mathlib.Omega.{arith}
 use Rattle.sides.proofs.Bools.{and-left, and-right}
-use Rattle.laws.proofs.Shape.{Side, side-power}
+use Rattle.laws.specs.Shape.{Side}
+use Rattle.laws.proofs.Shape.{side-power}
 
 pub data One : ℕ → Type 0 where
   one-4 : One 4

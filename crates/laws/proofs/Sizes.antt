@@ -15,12 +15,14 @@ use Rattle.tree.specs.Rows.{Row}
 use Rattle.tree.specs.Tree.{Tree, rowsOf}
 use Rattle.laws.specs.Geometry.{areaOf, clip}
 use Rattle.laws.specs.Every.{Every, every-none, every-more}
+use Rattle.laws.specs.Proper.{Proper}
+use Rattle.laws.specs.Directions.{extent}
+use Rattle.laws.specs.Shape.{Shape}
 use Rattle.laws.proofs.Picture.{inside-end}
 use Rattle.laws.proofs.Leaves.{rowSide, leaf-side}
 use Rattle.laws.proofs.EveryRow.{every-row}
-use Rattle.laws.proofs.Directions.{extent}
 use Rattle.laws.proofs.Multiples.{fold-least}
-use Rattle.laws.proofs.Shape.{Shape, shape-kids}
+use Rattle.laws.proofs.Shape.{shape-kids}
 use Rattle.laws.proofs.Measure.{UpTo, ofRows, measured}
 
 -- ---- samples
@@ -53,10 +55,10 @@ unfolding areaOf
 area-least every-none = omega arith
 area-least (every-more {a = r} h hs) = let a = mul-le-mul (h Vertical) (h Horizontal) in let b = area-least hs in omega arith
 
-module _ (k : Kind) {n : Node} (cb : 4 ≤ k .limits .mincb) (qt : 4 ≤ k .limits .minqt) (sh : Shape n) (t : Tree k n) where
+module _ {k : Kind} (v : Proper k) {n : Node} (sh : Shape n) (t : Tree k n) where
   -- the samples of the rows are those of the node in the picture
   pub areas-in-picture : areaOf (rowsOf t) ≡ clip (k .limits .width) (n .x) (n .w) * clip (k .limits .height) (n .y) (n .h)
-  areas-in-picture = area-rows (rowsOf t) ∙ measured k (λ e. length-measure (extent e (k .limits))) cb qt t (every-more sh every-none) ∙ omega arith
+  areas-in-picture = area-rows (rowsOf t) ∙ measured v (λ e. length-measure (extent e (k .limits))) t (every-more sh every-none) ∙ omega arith
 
   pub areas : inside (k .limits) n ≡ true → areaOf (rowsOf t) ≡ n .w * n .h
   areas h =
@@ -65,7 +67,7 @@ module _ (k : Kind) {n : Node} (cb : 4 ≤ k .limits .mincb) (qt : 4 ≤ k .limi
       areas-in-picture ∙ ap₂ (λ a b. a * b) (omega arith) (omega arith)
 
   sides-least : Every (λ r. (e : Direction) → 4 ≤ rowSide e r) (rowsOf t)
-  sides-least = every-row k (λ n sh d ok. shape-kids k n cb qt sh d ok) (λ n sh h e. rw (leaf-side sh e) (fold-least (sh .side e .fold))) t (every-more sh every-none)
+  sides-least = every-row k (λ n sh d ok. shape-kids v sh d ok) (λ n sh h e. rw (leaf-side sh e) (fold-least (sh .side e .fold))) t (every-more sh every-none)
 
   -- a row has 16 samples at least: a unit has 1,024 rows at most
   pub rows-fit : 16 * length (rowsOf t) ≤ n .w * n .h

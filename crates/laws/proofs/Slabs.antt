@@ -10,9 +10,8 @@ use Rattle.tree.specs.declared.Direction.the-variants.{Horizontal, Vertical}
 use Rattle.tree.specs.declared.Decision.{Decision}
 use Rattle.tree.specs.Splits.{pick, along, sameDirection}
 use Rattle.tree.specs.Children.{slab, child}
-use Rattle.laws.proofs.Directions.{corner}
-use Rattle.laws.proofs.Multiples.{Multiple, four-quarters}
-use Rattle.laws.proofs.Parts.{from, size, child-along, child-corner}
+use Rattle.laws.specs.Directions.{corner}
+use Rattle.laws.proofs.Parts.{from, size, child-corner}
 
 abbrev pub other : Direction → Direction
 other d = pick d Vertical Horizontal
@@ -58,12 +57,10 @@ module _ (start long part : ℕ) where
   size-across Horizontal = refl
   size-across Vertical = refl
 
-  -- so the child that it makes ends there
+  -- so the child that it makes starts there
   module _ (l : Limits) (n : Node) (by : Decision) (d : Direction) where
-    pub far-along : far d (child l n by (slab d start long part)) ≡ corner d n + along d n / 4 * start + along d n / 4 * long
-    far-along = rw (child-corner l n by (slab d start long part) d, child-along l n by (slab d start long part) d, from-along d, size-along d)
+    pub corner-along : corner d (child l n by (slab d start long part)) ≡ corner d n + along d n / 4 * start
+    corner-along = rw (child-corner l n by (slab d start long part) d, from-along d)
 
-    pub far-across : Multiple 4 (along (other d) n) → far (other d) (child l n by (slab d start long part)) ≡ far (other d) n
-    far-across four =
-        rw (child-corner l n by (slab d start long part) (other d), child-along l n by (slab d start long part) (other d), from-across d, size-across d)
-        (let q = four-quarters four in omega arith)
+    pub corner-across : corner (other d) (child l n by (slab d start long part)) ≡ corner (other d) n
+    corner-across = rw (child-corner l n by (slab d start long part) (other d), from-across d) (omega arith)

@@ -4,33 +4,28 @@ use mathlib.Core.Path.{_≡_, refl, ap, _∙_}
 use mathlib.Core.Bool.{Bool, true, false}
 use mathlib.Core.List.{List, [], _∷_}
 use native.Mathlib.Omega.{arith}
-use Rattle.tree.specs.declared.Limits.{Limits}
 use Rattle.tree.specs.declared.Node.{Node}
 use Rattle.tree.specs.declared.Share.{Share}
 use Rattle.tree.specs.declared.Decision.{Decision}
 use Rattle.tree.specs.declared.Decision.the-variants.{Leaf, Quad, Binary, Ternary}
 use Rattle.tree.specs.declared.Choice.the-variants.{Chosen, Refused}
-use Rattle.tree.specs.Kind.{Kind, luma}
+use Rattle.tree.specs.Kind.{Kind}
 use Rattle.tree.specs.Splits.{rightsOf, allows}
+pub use Rattle.tree.specs.Splits.{isSplit}
 use Rattle.tree.specs.Flags.{decide}
 use Rattle.tree.specs.Children.{shares, childQt, childMtt, child, childrenFrom, children, cornerInside}
 use Rattle.tree.specs.Rows.{Row, rowOf, ownRows}
 use Rattle.tree.specs.Run.{End, goes, stops, Run, refuse, before, goOn, overAll}
 use Rattle.tree.specs.Reading.{enter, walk, readNode}
 use Rattle.laws.specs.Every.{Every, every-none, every-more}
+use Rattle.laws.specs.Proper.{Proper}
+use Rattle.laws.specs.Good.{Good}
 use Rattle.laws.proofs.Tests.{never}
 use Rattle.laws.proofs.Flags.{decide-sound}
-use Rattle.laws.proofs.Opens.{luma-may, quad-open}
+use Rattle.laws.proofs.Opens.{quad-open}
 use Rattle.laws.proofs.Parts.{every-child}
 use Rattle.laws.proofs.Runs.{gives, over-here, over-gone}
-use Rattle.laws.proofs.Edge.{Valid, Good, edge-opens}
-
--- a decision that divides its node
-abbrev pub isSplit : Decision → Bool
-isSplit Leaf = false
-isSplit Quad = true
-isSplit (Binary d) = true
-isSplit (Ternary d) = true
+use Rattle.laws.proofs.Edge.{no-dead-end}
 
 -- ---- two runs over the same nodes
 
@@ -56,7 +51,7 @@ pub kid-depth : (k : Kind) (n : Node) (d : Decision) → isSplit d ≡ true → 
     → child (k .limits) n d p .qt + child (k .limits) n d p .mtt ≡ suc (n .qt + n .mtt)
 unfolding child childQt childMtt rightsOf
 kid-depth k n Leaf s ok p = never (cc)
-kid-depth k n Quad s ok p = let z = quad-open (k .limits) n (luma-may k n Quad ok) .top in omega arith
+kid-depth k n Quad s ok p = let z = quad-open k n ok .top in omega arith
 kid-depth k n (Binary d) s ok p = omega arith
 kid-depth k n (Ternary d) s ok p = omega arith
 
@@ -94,6 +89,6 @@ module _ (k : Kind) (flags : List ℕ) (n : Node) (deep : n .qt + n .mtt < 256) 
       ∙ rw e (own-none d s _ ∙ over-same k below (readNode k flags) (every-child k n d (λ p piece at. ap (λ i. walk i k flags (child (k .limits) n d p) at) (let q = kid-depth k n d s ok p in omega arith))) next)
 
 -- what is decided at a good node in the picture is allowed
-pub split-allowed : {l : Limits} → Valid l → {n : Node} → Good l n → cornerInside l n ≡ true → (flags : List ℕ) (at : ℕ) {next : ℕ} {d : Decision}
-    → decide (rightsOf (luma l) n) flags at ≡ Chosen d next → allows (rightsOf (luma l) n) d ≡ true
-split-allowed {l} v {n} g here flags at e = decide-sound flags (rightsOf (luma l) n) (edge-opens l v .edge n g here) e .ok
+pub split-allowed : {k : Kind} → Proper k → {n : Node} → Good (k .limits) n → cornerInside (k .limits) n ≡ true → (flags : List ℕ) (at : ℕ) {next : ℕ} {d : Decision}
+    → decide (rightsOf k n) flags at ≡ Chosen d next → allows (rightsOf k n) d ≡ true
+split-allowed {k} v {n} g here flags at e = decide-sound flags (rightsOf k n) (no-dead-end v g here) e .ok

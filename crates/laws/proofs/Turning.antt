@@ -5,7 +5,6 @@ use mathlib.Core.Path.{_≡_, refl, sym, ap, _∙_}
 use mathlib.Core.Bool.{true}
 use mathlib.Core.List.{List, [], _∷_, _++_, append-nil}
 use mathlib.Core.Logic.{_↔_}
-use native.Mathlib.Omega.{arith}
 use Rattle.tree.specs.declared.Node.{Node}
 use Rattle.tree.specs.Kind.{Kind}
 use Rattle.tree.specs.Children.{cornerInside}
@@ -14,14 +13,14 @@ use Rattle.tree.specs.Run.{End, goes, stops}
 use Rattle.tree.specs.Reading.{levelsLeft}
 use Rattle.tree.specs.Back.{backNode}
 use Rattle.tree.specs.Tree.{Tree, flagsOf, rowsOf}
+use Rattle.laws.specs.Proper.{Proper}
+use Rattle.laws.specs.Good.{Good}
 use Rattle.laws.proofs.Tests.{never}
 use Rattle.laws.proofs.Runs.{gives}
 use Rattle.laws.proofs.Unique.{tree-unique}
-use Rattle.laws.proofs.Shape.{Shape}
 use Rattle.laws.proofs.Levels.{levels-left}
-use Rattle.laws.proofs.Edge.{Valid, Good}
 use Rattle.laws.proofs.Backs.{Found, back-complete, back-sound}
-use Rattle.laws.proofs.Stops.{Plain, back-plain}
+use Rattle.laws.proofs.BackRefusals.{BackFine, back-fine}
 
 -- an end at which not all rows are taken: refusal 16, or rows that are left
 pub data Untaken : End (List Row) → Type 0 where
@@ -34,9 +33,9 @@ pub record TurningIsTree (k : Kind) (n : Node) : Type 0 where
   pub rows-unique : (t u : Tree k n) → rowsOf t ≡ rowsOf u → t ≡ u
   pub refused : (rows : List Row) → Untaken (backNode k n rows .end) ↔ ((t : Tree k n) → ¬ (rowsOf t ≡ rows))
 
-module _ (k : Kind) (cb : 4 ≤ k .limits .mincb) (qt : 4 ≤ k .limits .minqt) (n : Node) (sh : Shape n) (here : cornerInside (k .limits) n ≡ true) (fits : n .w + n .h + n .qt + n .mtt ≤ 256) where
+module _ {k : Kind} {n : Node} (v : Proper k) (g : Good (k .limits) n) (here : cornerInside (k .limits) n ≡ true) (fits : n .w + n .h + n .qt + n .mtt ≤ 256) where
   turned : (t : Tree k n) (rest : List Row) → backNode k n (rowsOf t ++ rest) ≡ gives (flagsOf t) rest
-  turned t rest = back-complete k cb qt (levelsLeft n) n sh here t (levels-left k cb qt n sh fits t) rest
+  turned t rest = back-complete v (levelsLeft n) n (g .shape) here t (levels-left v n (g .shape) fits t) rest
 
   turned-all : (t : Tree k n) → backNode k n (rowsOf t) ≡ gives (flagsOf t) []
   turned-all t = rw (append-nil (rowsOf t)) at (turned t [])
@@ -45,7 +44,7 @@ module _ (k : Kind) (cb : 4 ≤ k .limits .mincb) (qt : 4 ≤ k .limits .minqt) 
   unique : (t u : Tree k n) → rowsOf t ≡ rowsOf u → t ≡ u
   unique t u e = tree-unique t u (ap (λ r. r .given) (sym (turned-all t) ∙ ap (backNode k n) e ∙ turned-all u))
 
-  untaken : (rows : List Row) → ((t : Tree k n) → ¬ (rowsOf t ≡ rows)) → (end : End (List Row)) → backNode k n rows .end ≡ end → Plain end → Untaken end
+  untaken : (rows : List Row) → ((t : Tree k n) → ¬ (rowsOf t ≡ rows)) → (end : End (List Row)) → backNode k n rows .end ≡ end → BackFine end → Untaken end
   untaken rows no-tree (goes []) e p = let f = back-sound k (levelsLeft n) n here rows [] e in absurd (no-tree (f .trees) (sym (f .split ∙ append-nil (rowsOf (f .trees)))))
   untaken rows no-tree (goes (r ∷ rest)) e p = rows-left
   untaken rows no-tree (stops a b) e p = rw (p .0, p .1) no-flags
@@ -54,21 +53,13 @@ module _ (k : Kind) (cb : 4 ≤ k .limits .mincb) (qt : 4 ≤ k .limits .minqt) 
   not-taken no-flags e = never (cc)
   not-taken rows-left e = never (cc)
 
-  -- in any kind
-  pub kind-turning : TurningIsTree k n
-  kind-turning = record {
+  pub turning-is-tree : TurningIsTree k n
+  turning-is-tree = record {
     sound = back-sound k (levelsLeft n) n here;
     complete = turned;
     rows-unique = unique;
     refused = λ rows. (
       λ u t e. not-taken u (ap (λ rows. backNode k n rows .end) (sym e) ∙ ap (λ r. r .end) (turned-all t)),
-      λ no-tree. untaken rows no-tree _ refl (back-plain k (levelsLeft n) n rows),
+      λ no-tree. untaken rows no-tree _ refl (back-fine k (levelsLeft n) n rows),
     );
   }
-
--- over limits that pass the checks, in any kind of these limits
-pub turning-is-tree : (k : Kind) {n : Node} → Valid (k .limits) → Good (k .limits) n → cornerInside (k .limits) n ≡ true → n .w + n .h + n .qt + n .mtt ≤ 256 → TurningIsTree k n
-turning-is-tree k {n} v g here fits =
-    let a = v .leastCb in
-    let b = v .leQt in
-    kind-turning k a (omega arith) n (g .shape) here fits

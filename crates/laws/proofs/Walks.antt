@@ -1,7 +1,7 @@
 -- The walk over the flags and the coding trees belong together, both ways.
 use Prim.Native.Nat.{ℕ, zero, suc, _≤_, max}
 use mathlib.Core.Path.{_≡_, refl, _∙_}
-use mathlib.Core.Bool.{Bool, true, false, _||_}
+use mathlib.Core.Bool.{Bool, true, false}
 use mathlib.Core.List.{List, [], _∷_, _++_, append-assoc}
 use native.Mathlib.Omega.{arith}
 use Rattle.tree.specs.declared.Node.{Node}
@@ -10,7 +10,7 @@ use Rattle.tree.specs.declared.Choice.{Choice}
 use Rattle.tree.specs.declared.Choice.the-variants.{Chosen, Refused}
 use Rattle.tree.specs.Kind.{Kind}
 use Rattle.tree.specs.Splits.{rightsOf, allows}
-use Rattle.tree.specs.Flags.{someOpen, decide, flagsFor}
+use Rattle.tree.specs.Flags.{decide, flagsFor}
 use Rattle.tree.specs.Children.{children, cornerInside}
 use Rattle.tree.specs.Rows.{Row, ownRows}
 use Rattle.tree.specs.Run.{goes, Run, before, goOn, overAll}
@@ -18,8 +18,11 @@ use Rattle.tree.specs.Reading.{enter, walk}
 use Rattle.tree.specs.Tree.{Trees, none, skip, node, flagsOf, rowsOf}
 use Rattle.laws.proofs.Tests.{never}
 use Rattle.laws.specs.Every.{Every, every-none, every-more}
+use Rattle.laws.specs.Proper.{Proper}
+use Rattle.laws.specs.Good.{Good}
 use Rattle.laws.proofs.Bytes.{Reads, nothing, reads-join, reads-part}
 use Rattle.laws.proofs.Flags.{decide-complete, decide-sound}
+use Rattle.laws.proofs.Edge.{good-kids, no-dead-end}
 use Rattle.laws.proofs.Runs.{gives, joined, over-here, over-gone}
 
 -- how many nodes of the trees stand one below the other
@@ -53,11 +56,6 @@ module _ (k : Kind) (flags : List ℕ) where
       (rw (walk-complete (suc deep) rest (omega arith) (b .2)))
 
 -- ---- the converse
-
--- What keeps a walk from a dead end: a good node in the picture is within it or has an open split, and a good node's children are good.
-pub record Open (k : Kind) (Good : Node → Type 0) : Type 0 where
-  pub edge : (n : Node) → Good n → cornerInside (k .limits) n ≡ true → (rightsOf k n .within || someOpen (rightsOf k n)) ≡ true
-  pub kids : (n : Node) (d : Decision) → Good n → allows (rightsOf k n) d ≡ true → Every Good (children (k .limits) n d)
 
 module _ (k : Kind) (flags : List ℕ) where
   -- the trees behind flags that are read from one place to another, and rows
@@ -94,9 +92,9 @@ module _ (k : Kind) (flags : List ℕ) where
   abbrev Behind : (Node → ℕ → Run Row ℕ) → List Node → Type 0
   Behind step ns = (at to : ℕ) → overAll (k .limits) step ns at .end ≡ goes to → Grown ns at (overAll (k .limits) step ns at .given) to
 
-  module _ (Good : Node → Type 0) (step : Node → ℕ → Run Row ℕ)
-      (sound : (n : Node) → Good n → cornerInside (k .limits) n ≡ true → (at to : ℕ) → step n at .end ≡ goes to → Sprout n at (step n at .given) to) where
-    all-sound : {ns : List Node} → Every Good ns → Behind step ns
+  module _ (step : Node → ℕ → Run Row ℕ)
+      (sound : (n : Node) → Good (k .limits) n → cornerInside (k .limits) n ≡ true → (at to : ℕ) → step n at .end ≡ goes to → Sprout n at (step n at .given) to) where
+    all-sound : {ns : List Node} → Every (Good (k .limits)) ns → Behind step ns
     unfolding overAll
     all-sound every-none at to e = grown-none e
     all-sound (every-more {a = n} {rest = ns} g gs) at to e = begin (cornerInside (k .limits) n) refl (all-sound gs) e
@@ -107,23 +105,23 @@ module _ (k : Kind) (flags : List ℕ) where
             rw (over-here k step n ns at here, j .given) (grown-more here (sound n g here at (j .mid) (j .first)) (rest (j .mid) to (j .second)))
         begin false out rest e = rw (over-gone k step n ns at out) (grown-gone out (rest at to (rw (over-gone k step n ns at out) at e)))
 
-  module _ (Good : Node → Type 0) (opens : Open k Good) where
-    choice-sound : (n : Node) → Good n → cornerInside (k .limits) n ≡ true → (step : Node → ℕ → Run Row ℕ) → ((d : Decision) → Every Good (children (k .limits) n d) → Behind step (children (k .limits) n d))
+  module _ (v : Proper k) where
+    choice-sound : (n : Node) → Good (k .limits) n → cornerInside (k .limits) n ≡ true → (step : Node → ℕ → Run Row ℕ) → ((d : Decision) → Every (Good (k .limits)) (children (k .limits) n d) → Behind step (children (k .limits) n d))
         → (at to : ℕ) (c : Choice) → decide (rightsOf k n) flags at ≡ c → enter k n step c .end ≡ goes to → Sprout n at (enter k n step c .given) to
     unfolding enter before
     choice-sound n g here step below at to (Refused r p) i e = never (cc)
     choice-sound n g here step below at to (Chosen d m) i e =
-        let h = decide-sound flags (rightsOf k n) (opens .edge n g here) i in
-        let t = below d (opens .kids n d g (h .ok)) m to e in
+        let h = decide-sound flags (rightsOf k n) (no-dead-end v g here) i in
+        let t = below d (good-kids v g d (h .ok)) m to e in
         record { d = d; ok = h .ok; kids = t .trees; reads = reads-join (h .reads) (t .reads); same = rw (t .same) }
 
-    pub node-sound : (deep : ℕ) (n : Node) → Good n → cornerInside (k .limits) n ≡ true → (at to : ℕ) → walk deep k flags n at .end ≡ goes to → Sprout n at (walk deep k flags n at .given) to
+    pub node-sound : (deep : ℕ) (n : Node) → Good (k .limits) n → cornerInside (k .limits) n ≡ true → (at to : ℕ) → walk deep k flags n at .end ≡ goes to → Sprout n at (walk deep k flags n at .given) to
     unfolding walk
     node-sound zero n g here at to e = never (cc)
     node-sound (suc deep) n g here at to e =
         choice-sound n g here (walk deep k flags)
-        (λ d gs. all-sound Good (walk deep k flags) (node-sound deep) gs) at to (decide (rightsOf k n) flags at) refl e
+        (λ d gs. all-sound (walk deep k flags) (node-sound deep) gs) at to (decide (rightsOf k n) flags at) refl e
 
     -- an accepted walk over good nodes comes from trees
-    pub walk-sound : (deep : ℕ) {ns : List Node} → Every Good ns → (at to : ℕ) → walkAll k flags deep ns at .end ≡ goes to → Grown ns at (walkAll k flags deep ns at .given) to
-    walk-sound deep gs = all-sound Good (walk deep k flags) (node-sound deep) gs
+    pub walk-sound : (deep : ℕ) {ns : List Node} → Every (Good (k .limits)) ns → (at to : ℕ) → walkAll k flags deep ns at .end ≡ goes to → Grown ns at (walkAll k flags deep ns at .given) to
+    walk-sound deep gs = all-sound (walk deep k flags) (node-sound deep) gs

@@ -1,5 +1,11 @@
+pub mod Areas
 pub mod CellOrder
 pub mod Counts
+pub mod Directions
 pub mod Every
 pub mod Geometry
+pub mod Good
+pub mod Multiples
+pub mod Proper
 pub mod Reached
+pub mod Shape

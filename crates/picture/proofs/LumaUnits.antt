@@ -41,20 +41,7 @@ lumaUnits s refusal = record {
 good-root : {s : Settings} {a : ℕ} → Root s a
     → GoodRoot (s .width) (s .height) (pipelineSide (s .ctu)) (kindOf s) (rootAt s a)
 unfolding squareAt
-good-root r =
-    let cb = r .valid .leastCb in
-    let qt = r .valid .leQt in
-    record {
-      leastCb = cb;
-      leastQt = omega arith;
-      wide = refl;
-      high = refl;
-      shape = r .good .shape;
-      square = refl;
-      fits = r .fits;
-      at = λ e. rw (r .side e) (r .at e);
-      pipeline = refl;
-    }
+good-root r = record { proper = r .valid; wide = refl; high = refl; root = r .square; fits = r .fits; pipeline = refl }
 
 module _ (s : Settings) (refusal : ℕ → ℕ) (p : Usable s) (there : (a : ℕ) → refusal a ≡ 0 → a < unitCount s) where
   abbrev units : OneTree

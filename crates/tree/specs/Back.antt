@@ -1,18 +1,17 @@
 -- The way back of a node: the flags that give rows. This is an algorithm, without search: at each node the decision
 -- follows from the rows ahead. What it means is `Demand2` (unit/specs/Demand2.antt): rows become the flags of the coding
 -- tree that has them.
-use Prim.Native.Nat.{ℕ, zero, suc, _+_, _*_, _/_, _^_, min}
+use Prim.Native.Nat.{ℕ, zero, suc, _+_, _-_, _*_, _/_, _%_, _^_}
 use mathlib.Core.Bool.{Bool, true, false, cond, _&&_}
 use mathlib.Core.List.{List, [], _∷_}
-use lib.Dec.{ltb, eqb}
+use lib.Dec.{leb, ltb, eqb}
 use Rattle.tree.specs.declared.Limits.{Limits}
 use Rattle.tree.specs.declared.Node.{Node}
-use Rattle.tree.specs.declared.Direction.{Direction}
 use Rattle.tree.specs.declared.Direction.the-variants.{Horizontal, Vertical}
 use Rattle.tree.specs.declared.Decision.{Decision}
 use Rattle.tree.specs.declared.Decision.the-variants.{Leaf, Quad, Binary, Ternary}
 use Rattle.tree.specs.Kind.{Kind}
-use Rattle.tree.specs.Splits.{pick, rightOut, bottomOut, rightsOf, allows}
+use Rattle.tree.specs.Splits.{rightOut, bottomOut, inside, rightsOf, allows}
 use Rattle.tree.specs.Flags.{flagsFor}
 use Rattle.tree.specs.Children.{children}
 use Rattle.tree.specs.Rows.{Row, rowOf}
@@ -21,45 +20,48 @@ use Rattle.tree.specs.Reading.{levelsLeft}
 
 -- ---- the decision at a node, from the rows ahead
 
--- where a row ends; no side has an exponent above 7, so a larger one, which no tree gives, counts as 7
-abbrev pub rightEnd : Row → ℕ
-rightEnd r = r .x + 2 ^ min 7 (r .ew)
+-- how many cells of 16 samples a row has, where its exponents are 2 to 7, as those of a tree's rows are; for others some number from 1 to 32,768
+abbrev pub cellsOf : Row → ℕ
+cellsOf r = 2 ^ ((r .ew + r .eh + 12) % 16)
 
-abbrev pub bottomEnd : Row → ℕ
-bottomEnd r = r .y + 2 ^ min 7 (r .eh)
+-- the row before which exactly so many cells go by passes a test; false where no row starts there
+unfoldable pub startsAfter : ℕ → (Row → Bool) → List Row → Bool
+startsAfter count test [] = false
+startsAfter count test (r ∷ rs) = cond (leb (cellsOf r) count) (startsAfter (count - cellsOf r) test rs) (eqb count 0 && test r)
 
--- some row ends at the corner (px, py) before any row reaches past the line that a cut of direction d draws there
-unfoldable pub reach : Direction → ℕ → ℕ → List Row → Bool
-reach d px py [] = false
-reach d px py (r ∷ rs) =
-    cond (eqb (rightEnd r) px && eqb (bottomEnd r) py) true
-    (cond (pick d (ltb py (bottomEnd r)) (ltb px (rightEnd r))) false (reach d px py rs))
+-- a row starts at the left edge of a node; at its top edge
+abbrev pub atLeft : Node → Row → Bool
+atLeft n r = eqb (r .x) (n .x)
 
--- the rows end at the bottom right corner of the first q quarters of a node, in direction d, before they reach past these
-unfoldable pub meets : Direction → ℕ → Node → List Row → Bool
-meets d q n rows = reach d (n .x + pick d (n .w) (n .w / 4 * q)) (n .y + pick d (n .h / 4 * q) (n .h)) rows
+abbrev pub atTop : Node → Row → Bool
+atTop n r = eqb (r .y) (n .y)
 
--- the cut of a node inside the picture
+-- The cut of a node inside the picture. The second part of a horizontal cut starts at the left edge, that of a vertical one at the top edge: after half
+-- of the samples where the cut is binary, after a quarter where it is ternary. After half of a ternary cut no row starts at either edge, since the
+-- middle part is not cut in two the same way. A node of 16 samples asks after 0 cells for its half, one of 32 for its quarter: such cuts are closed, so
+-- that decides nothing.
 unfoldable pub cutFrom : Node → List Row → Decision
 cutFrom n rows =
-    cond (meets Horizontal 2 n rows) (Binary Horizontal)
-    (cond (meets Vertical 2 n rows) (Binary Vertical)
-    (cond (meets Horizontal 1 n rows) (Ternary Horizontal) (Ternary Vertical)))
+    cond (startsAfter (n .w * n .h / 32) (atLeft n) rows) (Binary Horizontal)
+    (cond (startsAfter (n .w * n .h / 32) (atTop n) rows) (Binary Vertical)
+    (cond (startsAfter (n .w * n .h / 64) (atLeft n) rows) (Ternary Horizontal) (Ternary Vertical)))
 
--- the decision at a node, from the row that is next and the rows after it
+-- two rows are the same
+unfoldable pub sameRow : Row → Row → Bool
+sameRow a b =
+    eqb (a .x) (b .x) && eqb (a .y) (b .y) && eqb (a .ew) (b .ew) && eqb (a .eh) (b .eh) && eqb (a .qt) (b .qt) && eqb (a .mtt) (b .mtt)
+
+-- The decision at a node, from the row that is next and the rows after it. A node whose own row is next is a leaf; the rows below a split are deeper
+-- than its node, so none of them is the node's own.
 unfoldable pub decisionFrom : Limits → Node → Row → List Row → Decision
 decisionFrom l n r rows =
-    cond (ltb (n .qt) (r .qt)) Quad
-    (cond (eqb (r .mtt) (n .mtt)) Leaf
+    cond (inside l n && sameRow r (rowOf n)) Leaf
+    (cond (ltb (n .qt) (r .qt)) Quad
     (cond (bottomOut l n) (Binary Horizontal)
     (cond (rightOut l n) (Binary Vertical)
     (cutFrom n (r ∷ rows)))))
 
 -- ---- the way back
-
-unfoldable pub sameRow : Row → Row → Bool
-sameRow a b =
-    eqb (a .x) (b .x) && eqb (a .y) (b .y) && eqb (a .ew) (b .ew) && eqb (a .eh) (b .eh) && eqb (a .qt) (b .qt) && eqb (a .mtt) (b .mtt)
 
 -- refusal 16: no flags give these rows
 abbrev pub noFlags : Run ℕ (List Row)
@@ -69,9 +71,9 @@ noFlags = refuse 16 0
 abbrev pub backSplit : Kind → Node → (Node → List Row → Run ℕ (List Row)) → List Row → Decision → Run ℕ (List Row)
 backSplit k n go rows d = before (flagsFor (rightsOf k n) d) (overAll (k .limits) go (children (k .limits) n d) rows)
 
--- a decision that the node allows; a leaf takes its own row
+-- a decision that the node allows; a leaf takes the next row, which is its own where it is decided
 unfoldable pub backInto : Kind → Node → (Node → List Row → Run ℕ (List Row)) → Row → List Row → Decision → Run ℕ (List Row)
-backInto k n go r rows Leaf = cond (sameRow r (rowOf n)) (record { given = flagsFor (rightsOf k n) Leaf; end = goes rows }) noFlags
+backInto k n go r rows Leaf = record { given = flagsFor (rightsOf k n) Leaf; end = goes rows }
 backInto k n go r rows Quad = backSplit k n go (r ∷ rows) Quad
 backInto k n go r rows (Binary d) = backSplit k n go (r ∷ rows) (Binary d)
 backInto k n go r rows (Ternary d) = backSplit k n go (r ∷ rows) (Ternary d)

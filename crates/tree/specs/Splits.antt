@@ -13,7 +13,7 @@ use Rattle.tree.specs.declared.Direction.{Direction}
 use Rattle.tree.specs.declared.Direction.the-variants.{Horizontal, Vertical}
 use Rattle.tree.specs.declared.Decision.{Decision}
 use Rattle.tree.specs.declared.Decision.the-variants.{Leaf, Quad, Binary, Ternary}
-use Rattle.tree.specs.Kind.{Kind}
+use Rattle.tree.specs.Kind.{Kind, closes}
 
 -- one of two values by direction
 abbrev pub pick : {A : Type 0} → Direction → A → A → A
@@ -115,9 +115,9 @@ pub record Rights : Type 0 where
 unfoldable pub rightsOf : Kind → Node → Rights
 rightsOf k n = record {
   within = inside (k .limits) n;
-  quad = not (k .closes n Quad) && quadOpen (k .limits) n;
-  binary = λ d. not (k .closes n (Binary d)) && binaryOpen (k .limits) n d;
-  ternary = λ d. not (k .closes n (Ternary d)) && ternaryOpen (k .limits) n d;
+  quad = not (closes k n Quad) && quadOpen (k .limits) n;
+  binary = λ d. not (closes k n (Binary d)) && binaryOpen (k .limits) n d;
+  ternary = λ d. not (closes k n (Ternary d)) && ternaryOpen (k .limits) n d;
 }
 
 -- the decisions that rights allow: a leaf inside the picture, and the open splits
@@ -126,6 +126,13 @@ allows r Leaf = r .within
 allows r Quad = r .quad
 allows r (Binary d) = r .binary d
 allows r (Ternary d) = r .ternary d
+
+-- a decision that divides its node
+abbrev pub isSplit : Decision → Bool
+isSplit Leaf = false
+isSplit Quad = true
+isSplit (Binary d) = true
+isSplit (Ternary d) = true
 
 -- ---- the open splits as one number
 
