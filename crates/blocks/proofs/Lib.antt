@@ -1,3 +1,4 @@
 pub mod Pastes
 pub mod Shares
 pub mod Words
+pub mod WordCopies

@@ -4,7 +4,7 @@ use tree::Direction;
 use tree::Part;
 use tree::Share;
 ghost use mathlib.Core.Path.{_≡_};
-ghost use Prim.Native.Nat.{_*_, _/_, _≤_, _<_};
+ghost use Prim.Native.Nat.{_*_, _/_, _≤_};
 ghost use lib.ListN.{getD};
 ghost use Rattle.tree.specs.Splits as Splits;
 ghost use Rattle.tree.specs.Children as Children;
@@ -14,18 +14,31 @@ ghost use Rattle.blocks.specs.Table.{shareTable, shareAt};
 // The shares of the parts of QT (one way), BH, BV, TH and TV, in quarters of the parent.
 const SHARES: [u8; 15] = [2, 2, 0, 2, 2, 0, 2, 2, 0, 1, 2, 1, 1, 2, 1];
 
+// The places of its first parts: the first of the two parts of BH and of BV, and the first of the three parts of TH and
+// of TV, which the middle one follows.
+pub const BINARY_H: usize = 3;
+
+pub const BINARY_V: usize = 6;
+
+pub const TERNARY_H: usize = 9;
+
+pub const TERNARY_V: usize = 12;
+
+pub const MIDDLE_H: usize = 10;
+
+pub const MIDDLE_V: usize = 13;
+
 fn wide(x: u8) -> u32
     ensures { λ r. ⌜ r ≡ x ⌝ }
 {
     x as u32
 }
 
-// An entry of the table.
+// An entry of the table; 0 past its end.
 fn share(i: usize) -> u32
-    requires { ⌜ i < 15 ⌝ }
     ensures { λ r. ⌜ r ≡ getD shareTable i 0 ⌝ }
 {
-    wide(SHARES[i])
+    if i < 15 { wide(SHARES[i]) } else { 0 }
 }
 
 // A share from its five numbers.
@@ -59,8 +72,7 @@ fn slab(d: Direction, start: u32, size: u32, part: u32) -> Share
 }
 
 // An entry by the direction of a cut.
-fn share_of(d: Direction, horizontal: usize, vertical: usize) -> u32
-    requires { ⌜ (horizontal < 15) × (vertical < 15) ⌝ }
+pub fn share_of(d: Direction, horizontal: usize, vertical: usize) -> u32
     ensures { λ r. ⌜ r ≡ Splits.pick d (getD shareTable horizontal 0) (getD shareTable vertical 0) ⌝ }
 {
     match d {
@@ -86,7 +98,7 @@ fn quad_share(i: u32) -> Share
 fn binary_share(d: Direction, i: u32) -> Share
     ensures { λ r. ⌜ r ≡ shareAt (Decision.Binary d) i ⌝ }
 {
-    let first = share_of(d, 3, 6);
+    let first = share_of(d, BINARY_H, BINARY_V);
     match i {
         0 => slab(d, 0, first, i),
         1 => slab(d, first, share_of(d, 4, 7), i),
@@ -97,8 +109,8 @@ fn binary_share(d: Direction, i: u32) -> Share
 fn ternary_share(d: Direction, i: u32) -> Share
     ensures { λ r. ⌜ r ≡ shareAt (Decision.Ternary d) i ⌝ }
 {
-    let first = share_of(d, 9, 12);
-    let second = share_of(d, 10, 13);
+    let first = share_of(d, TERNARY_H, TERNARY_V);
+    let second = share_of(d, MIDDLE_H, MIDDLE_V);
     match i {
         0 => slab(d, 0, first, i),
         1 => slab(d, first, second, i),

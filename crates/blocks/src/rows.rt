@@ -1,12 +1,12 @@
 // A leaf's row: one number of 64 bits, whose bytes, the lowest first, are the row's 8 bytes.
 use tree::Node;
 ghost use mathlib.Core.Path.{_≡_};
-ghost use Prim.Native.Nat.{_+_, _%_, _<_};
+ghost use Prim.Native.Nat.{_+_, _%_, _<_, _≤_};
 ghost use lib.ListN.{length};
-ghost use lib.Dec.{leb};
+ghost use lib.Seq.{sets};
 ghost use Rattle.sides.specs.Side.{exponent};
 ghost use Rattle.tree.specs.Rows.{rowOf};
-ghost use Rattle.blocks.specs.Words.{rowWord, Put};
+ghost use Rattle.blocks.specs.Words.{rowWord, wordBytes, Put};
 
 // The exponent of a side, which a row stores in a byte.
 fn stored_exponent(side: u32) -> u64
@@ -25,6 +25,21 @@ pub fn row_word(n: Node) -> u64
     corner + exponents * 4294967296 + depths * 281474976710656
 }
 
+// Stores the 8 bytes of a number at a place of a buffer.
+pub(crate) fn store_word(rows: &mut [u8], at: usize, word: u64)
+    requires { ⌜ at + 8 ≤ length (now rows) ⌝ }
+    ensures { λ _. ⌜ now (rows .exit) ≡ sets (now (rows .entry)) at (wordBytes word) ⌝ }
+{
+    rows[at] = (word % 256) as u8;
+    rows[at + 1] = (word / 256 % 256) as u8;
+    rows[at + 2] = (word / 65536 % 256) as u8;
+    rows[at + 3] = (word / 16777216 % 256) as u8;
+    rows[at + 4] = (word / 4294967296 % 256) as u8;
+    rows[at + 5] = (word / 1099511627776 % 256) as u8;
+    rows[at + 6] = (word / 281474976710656 % 256) as u8;
+    rows[at + 7] = (word / 72057594037927936 % 256) as u8;
+}
+
 // Writes a row at a place of a buffer and answers true; where the buffer has no 8 bytes there, it stays as it is
 // and the answer is false.
 pub fn put_row(rows: &mut [u8], at: usize, word: u64) -> bool
@@ -36,13 +51,6 @@ pub fn put_row(rows: &mut [u8], at: usize, word: u64) -> bool
     if rows.len() - 8 < at {
         return false;
     }
-    rows[at] = (word % 256) as u8;
-    rows[at + 1] = (word / 256 % 256) as u8;
-    rows[at + 2] = (word / 65536 % 256) as u8;
-    rows[at + 3] = (word / 16777216 % 256) as u8;
-    rows[at + 4] = (word / 4294967296 % 256) as u8;
-    rows[at + 5] = (word / 1099511627776 % 256) as u8;
-    rows[at + 6] = (word / 281474976710656 % 256) as u8;
-    rows[at + 7] = (word / 72057594037927936 % 256) as u8;
+    store_word(rows, at, word);
     true
 }

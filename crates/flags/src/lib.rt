@@ -1,5 +1,12 @@
-// The decision of a node, read from its flags. A flag is read only where it is present; the open splits are tested
-// by their masks.
+// The flags of a node: the decision that is read from them, and in `put` the flags that say a decision. A flag is read
+// only where it is present; the open splits are tested by their masks.
+mod put;
+
+pub use put::Scratch;
+pub use put::allowed;
+pub use put::put_out;
+pub use put::put_split;
+pub use put::some_open;
 use tree::BH;
 use tree::BV;
 use tree::Choice;
@@ -10,15 +17,17 @@ use tree::QT;
 use tree::TH;
 use tree::TV;
 ghost use mathlib.Core.Path.{_≡_};
-ghost use mathlib.Core.Bool.{Bool, _||_};
+ghost use mathlib.Core.Bool.{Bool, true, false, cond, _||_};
+ghost use Rattle.tree.specs.declared.Direction.the-variants.{Horizontal, Vertical};
 ghost use Rattle.tree.specs.Splits as Splits;
 ghost use Rattle.tree.specs.Splits.{rightsIn, binaryMask, ternaryMask};
 ghost use Rattle.tree.specs.Flags as Flags;
 ghost use Rattle.tree.specs.Flags.{flagAt, afterBinary, afterVertical, afterQuad, afterSplit};
-ghost use Rattle.tree.specs.Flags.{splitFlag, quadFlag, verticalFlag, binaryFlag};
+ghost use Rattle.tree.specs.Flags.{quadFlag, verticalFlag, binaryFlag};
+ghost use Rattle.flags.specs.Out.{decideOut};
 
 // The masks of the binary and of the ternary split of a direction.
-fn binary_mask(d: Direction) -> u32
+pub fn binary_mask(d: Direction) -> u32
     ensures { λ r. ⌜ r ≡ binaryMask d ⌝ }
 {
     match d {
@@ -27,7 +36,7 @@ fn binary_mask(d: Direction) -> u32
     }
 }
 
-fn ternary_mask(d: Direction) -> u32
+pub fn ternary_mask(d: Direction) -> u32
     ensures { λ r. ⌜ r ≡ ternaryMask d ⌝ }
 {
     match d {
@@ -67,13 +76,6 @@ fn read_flag(flags: &[u8], at: usize, there: bool, absent: bool) -> Flag
     } else {
         Flag::Value(absent, at)
     }
-}
-
-fn split_flag(flags: &[u8], at: usize, out: bool, splits: u32) -> Flag
-    ensures { λ r. ⌜ r ≡ splitFlag (rightsIn out splits) (now (flags .entry)) at ⌝ }
-{
-    let open = (splits & QT != 0) | (horizontal(splits) | vertical(splits));
-    read_flag(flags, at, !out & open, out)
 }
 
 // Where a node lies plays no part in the next three flags: their contracts hold for one in the picture and for one
@@ -127,18 +129,23 @@ fn cut(flags: &[u8], at: usize, splits: u32, d: Direction) -> Choice
     after_binary(d, binary_flag(flags, at, splits, d))
 }
 
+// The direction of a cut that is vertical or not.
+fn direction(upright: bool) -> Direction
+    ensures { λ r. ⌜ r ≡ cond upright Vertical Horizontal ⌝ }
+{
+    if upright {
+        Direction::Vertical
+    } else {
+        Direction::Horizontal
+    }
+}
+
 fn after_vertical(flags: &[u8], splits: u32, f: Flag) -> Choice
     ensures { λ r. ⌜ ((out : Bool) → r ≡ afterVertical (rightsIn out splits) (now (flags .entry)) f) ⌝ }
 {
     match f {
         Flag::Bad(number, place) => Choice::Refused(number, place),
-        Flag::Value(upright, at) => {
-            if upright {
-                cut(flags, at, splits, Direction::Vertical)
-            } else {
-                cut(flags, at, splits, Direction::Horizontal)
-            }
-        }
+        Flag::Value(upright, at) => cut(flags, at, splits, direction(upright)),
     }
 }
 
@@ -172,10 +179,28 @@ fn after_split(flags: &[u8], splits: u32, f: Flag) -> Choice
     }
 }
 
-// The decision that the flags from a place on give at a node, by its open splits and whether it is out of the
-// picture; and the next place.
-pub fn decide(flags: &[u8], at: usize, out: bool, splits: u32) -> Choice
-    ensures { λ r. ⌜ r ≡ Flags.decide (rightsIn out splits) (now (flags .entry)) at ⌝ }
+// The decision that the flags from a place on give at a node inside the picture that has an open split, and the next
+// place: its first flag is present.
+pub fn decide_inside(flags: &[u8], at: usize, splits: u32) -> Choice
+    ensures { λ r. ⌜ r ≡ afterSplit (rightsIn false splits) (now (flags .entry)) (flagAt true false (now (flags .entry)) at) ⌝ }
 {
-    after_split(flags, splits, split_flag(flags, at, out, splits))
+    after_split(flags, splits, read_flag(flags, at, true, false))
+}
+
+// The same at a node that is out and has one open cut at most, a binary one: it is split, and its only flag is the
+// quad one.
+pub fn decide_out(flags: &[u8], at: usize, splits: u32) -> Choice
+    ensures { λ r. ⌜ r ≡ decideOut splits (now (flags .entry)) at ⌝ }
+{
+    let flat = splits & BH != 0;
+    match quad_flag(flags, at, splits) {
+        Flag::Bad(number, place) => Choice::Refused(number, place),
+        Flag::Value(quad, next) => {
+            if quad {
+                Choice::Chosen(Decision::Quad, next)
+            } else {
+                Choice::Chosen(Decision::Binary(direction(!flat)), next)
+            }
+        }
+    }
 }

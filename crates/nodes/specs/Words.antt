@@ -1,7 +1,7 @@
--- A node as the walks carry it, two numbers: `row`, its row as one number, and `kept`, the splits that its depths and its parent leave it, 32 more
--- where it may reach past the picture, and 64 for each 1 of its offset F.
-use Prim.Native.Nat.{ℕ, _+_, _-_, _*_, _/_, _%_, _^_}
-use mathlib.Core.Bool.{Bool, not, _&&_, _||_, cond}
+-- A node as the walks carry it, two numbers: `row`, its row as one number, and the splits that are left to it: its open splits where it lies inside the
+-- picture; where it may be out, those that its depths leave, and 64 for each 1 of its offset F.
+use Prim.Native.Nat.{ℕ, _+_, _-_, _*_, _/_, _%_, _^_, min}
+use mathlib.Core.Bool.{Bool, _&&_, cond}
 use mathlib.Core.List.{List}
 use lib.ListN.{getD}
 use lib.Dec.{ltb, eqb}
@@ -11,52 +11,40 @@ use Rattle.tree.specs.declared.Share.{Share}
 use Rattle.tree.specs.declared.Direction.{Direction}
 use Rattle.tree.specs.declared.Decision.{Decision}
 use Rattle.tree.specs.declared.Decision.the-variants.{Leaf, Quad, Binary, Ternary}
-use Rattle.tree.specs.Kind.{luma}
-use Rattle.tree.specs.Splits.{pick, bit, has, isOut, rightsOf, openSplits}
-use Rattle.tree.specs.Children.{partOf, lift, cornerInside}
+use Rattle.tree.specs.Splits.{pick, along, bit, has}
+use Rattle.tree.specs.Children.{partOf}
 use Rattle.blocks.specs.Table.{shareAt}
 use Rattle.nodes.specs.Tables.{limitsIn}
 
--- the node that the two numbers say, but for its part and its parent, which `kept` has taken into account
-unfoldable pub nodeIn : ℕ → ℕ → Node
-nodeIn row kept = record {
+-- the node that a row says, but for its offset F, its part and its parent
+unfoldable pub nodeIn : ℕ → Node
+nodeIn row = record {
   x = row % 65536;
   y = row / 65536 % 65536;
   w = 2 ^ (row / 4294967296 % 8);
   h = 2 ^ (row / 1099511627776 % 8);
   qt = row / 281474976710656 % 256;
   mtt = row / 72057594037927936 % 256;
-  offset = kept / 64;
+  offset = 0;
   part = 0;
   parent = Leaf;
 }
 
--- ---- a node in the picture
+-- ---- its open splits
 
-abbrev pub mayReachPast : ℕ → Bool
-mayReachPast kept = has kept 32
-
--- its corner is outside the picture
-abbrev pub skips : List ℕ → ℕ → ℕ → Bool
-skips u row kept = mayReachPast kept && not (cornerInside (limitsIn u) (nodeIn row kept))
-
-abbrev pub reachesOut : List ℕ → ℕ → ℕ → Bool
-reachesOut u row kept = mayReachPast kept && isOut (limitsIn u) (nodeIn row kept)
-
--- its open splits by the rules, and, inside the picture, by the masks of its sides
-abbrev pub edgeIn : List ℕ → ℕ → ℕ → ℕ
-edgeIn u row kept = bitAnd kept (openSplits (rightsOf (luma (limitsIn u)) (nodeIn row kept)))
-
+-- inside the picture: of these, what the masks of its sides and of its area leave
 abbrev pub innerIn : List ℕ → ℕ → ℕ → ℕ
-innerIn u row kept = bitAnd (bitAnd kept (getD u (6 + row / 4294967296 % 8) 0)) (getD u (12 + row / 1099511627776 % 8) 0)
+innerIn u row splits =
+    bitAnd (bitAnd (bitAnd splits (getD u (6 + row / 4294967296 % 8) 0)) (getD u (12 + row / 1099511627776 % 8) 0))
+    (getD u (16 + (row / 4294967296 % 8 + row / 1099511627776 % 8)) 0)
 
--- a root has no depths; its sides may both be 128, for which the masks are not made
-abbrev pub isRoot : ℕ → ℕ → Bool
-isRoot row kept = mayReachPast kept && ltb row 281474976710656
+-- out of the picture: the binary cut that may be open there is BH (2) at the bottom, else BV (4); none in the picture's corner while QT may be open by the width
+abbrev pub edgeCut : List ℕ → ℕ → Bool → Bool → ℕ
+edgeCut u row right bottom = cond bottom (cond (right && has (getD u (6 + row / 4294967296 % 8) 0) 1) 0 2) 4
 
--- its open splits: by the rules where it is out, and for a root; else by the masks
-unfoldable pub openIn : List ℕ → ℕ → ℕ → ℕ
-openIn u row kept = cond (reachesOut u row kept || isRoot row kept) (edgeIn u row kept) (innerIn u row kept)
+-- QT and that cut, as far as the masks leave them
+abbrev pub outIn : List ℕ → ℕ → ℕ → Bool → Bool → ℕ
+outIn u row byDepth right bottom = bitAnd (innerIn u row byDepth) (1 + edgeCut u row right bottom)
 
 -- ---- its children
 
@@ -74,7 +62,7 @@ deeper (Ternary d) = 72057594037927936
 -- what a part adds to its parent's row: its depth and its place, less the fall of its exponents
 abbrev pub stepTo : ℕ → Decision → Share → ℕ
 stepTo row d p =
-    deeper d + partOf (nodeIn row 0 .w) (nodeIn row 0 .h) p .left + partOf (nodeIn row 0 .w) (nodeIn row 0 .h) p .top * 65536
+    deeper d + partOf (nodeIn row .w) (nodeIn row .h) p .left + partOf (nodeIn row .w) (nodeIn row .h) p .top * 65536
     - (fall (p .wide) * 4294967296 + fall (p .high) * 1099511627776)
 
 -- the parent's row that a child's is made from: a quad split leaves no MTT depth
@@ -88,31 +76,32 @@ rowAbove row (Ternary d) = row
 unfoldable pub childRow : ℕ → Decision → ℕ → ℕ
 childRow row d i = (rowAbove row d + stepTo row d (shareAt d i)) % 2 ^ 64
 
--- from the corner of the first half of a binary split to that of the second, in a row's number: where the second's share starts
-abbrev pub halfStep : ℕ → Direction → ℕ
-halfStep row d =
-    let p = partOf (nodeIn row 0 .w) (nodeIn row 0 .h) (shareAt (Binary d) 1) in
-    pick d (p .top * 65536) (p .left)
+-- The parts of a cut, with its direction as data. A step along the side that it divides: so many quarters of that side, added to the corner.
+abbrev pub stepAlong : ℕ → Direction → ℕ → ℕ
+stepAlong row d start = along d (nodeIn row) / 4 * start * pick d 65536 1
 
--- `kept` for a child above all cuts: QT, and the cuts where M is not 0
-abbrev pub keptAbove : List ℕ → Bool → ℕ
-keptAbove u out = bit (ltb 0 (limitsIn u .maxmtt)) 30 + 1 + bit out 32
+-- the row of a part so many quarters long, but at its parent's corner
+abbrev pub cutPart : ℕ → Direction → ℕ → ℕ
+cutPart row d size = (row + (72057594037927936 - fall size * pick d 1099511627776 4294967296)) % 2 ^ 64
 
--- `kept` for a part of a cut: `cuts` where its depth is below M + F, and never QT
-abbrev pub keptBelow : List ℕ → ℕ → ℕ → Bool → ℕ → ℕ
-keptBelow u row offset out cuts = offset % 1024 * 64 + bit out 32 + bit (ltb (nodeIn row 0 .mtt + 1) (limitsIn u .maxmtt + offset)) cuts
+-- ---- what is left to its children
 
 -- the cuts of a ternary part: the middle one is without the binary cut of its parent's direction
 abbrev pub cutsOf : Direction → ℕ → ℕ
 cutsOf d i = cond (eqb i 1) (pick d 28 26) 30
 
--- what a binary cut of direction d adds to the offset
-abbrev pub liftIn : List ℕ → ℕ → ℕ → Direction → ℕ
-liftIn u row kept d = lift (limitsIn u) (nodeIn row kept) d
+-- Inside the picture. M + F, the bound of the MTT depth, where that depth stands in a row's number: a child whose row is below it may be cut.
+abbrev pub boundIn : List ℕ → ℕ → ℕ
+boundIn u byDepth = min 255 (limitsIn u .maxmtt + byDepth / 64) * 72057594037927936
 
--- `kept` for a child, from its parent's, whether the parent is out, the decision, and the part's number
-unfoldable pub keptUnder : List ℕ → ℕ → ℕ → Bool → Decision → ℕ → ℕ
-keptUnder u row kept out Leaf i = 0
-keptUnder u row kept out Quad i = keptAbove u out
-keptUnder u row kept out (Binary d) i = keptBelow u row (kept / 64 + bit out (liftIn u row kept d)) out 30
-keptUnder u row kept out (Ternary d) i = keptBelow u row (kept / 64) out (cutsOf d i)
+-- the open splits of a child: these cuts where its row is below the bound, QT where quad is 1, and of these what the masks leave
+abbrev pub openBelow : List ℕ → ℕ → ℕ → ℕ → ℕ → ℕ
+openBelow u row bound cuts quad = innerIn u row (bit (ltb row bound) cuts + quad)
+
+-- Out of the picture: the splits that its depths leave to a child, and 64 for each 1 of its offset F. Above all cuts: QT, and the cuts where M is not 0.
+abbrev pub depthAbove : List ℕ → ℕ
+depthAbove u = bit (ltb 0 (limitsIn u .maxmtt)) 30 + 1
+
+-- a part of a binary cut there, which adds 1 to F: the cuts where its depth is below M + F, and never QT
+abbrev pub depthBelow : List ℕ → ℕ → ℕ → ℕ
+depthBelow u row depths = (depths / 64 + 1) % 1024 * 64 + bit (ltb (nodeIn row .mtt + 1) (limitsIn u .maxmtt + (depths / 64 + 1))) 30

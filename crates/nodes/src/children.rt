@@ -1,20 +1,21 @@
-// The children of a node: their rows, and what their depths and the split leave open.
+// The rows of the children of a node.
 use crate::fields::height;
-use crate::fields::limits_of;
-use crate::fields::mtt_depth;
-use crate::fields::node_of;
 use crate::fields::width;
-use crate::masks::Table;
+use blocks::BINARY_H;
+use blocks::BINARY_V;
+use blocks::MIDDLE_H;
+use blocks::MIDDLE_V;
+use blocks::TERNARY_H;
+use blocks::TERNARY_V;
 use tree::Decision;
 use tree::Direction;
 ghost use mathlib.Core.Path.{_≡_};
-ghost use Prim.Native.Nat.{_≤_, _<_};
+ghost use Prim.Native.Nat.{_≤_};
 ghost use Rattle.tree.specs.Splits as Splits;
-ghost use Rattle.tree.specs.declared.Decision.the-variants.{Binary};
+ghost use Rattle.tree.specs.declared.Decision.the-variants.{Binary, Ternary};
 ghost use Rattle.blocks.specs.Table.{shareAt};
-ghost use Rattle.nodes.specs.Tables.{limitsIn};
 ghost use Rattle.nodes.specs.Words as Words;
-ghost use Rattle.nodes.specs.Words.{stepTo, rowAbove, childRow, halfStep, keptAbove, keptBelow, cutsOf, keptUnder};
+ghost use Rattle.nodes.specs.Words.{stepTo, rowAbove, childRow, stepAlong, cutPart};
 
 // By how much the exponent of a part's side is below its parent's, from the part's length in quarters.
 fn fall(size: u32) -> u64
@@ -69,98 +70,81 @@ pub fn child_row(row: u64, d: Decision, i: u32) -> u64
     std::num::wrapping_add_u64(row_above(row, d), step_to(row, d, i))
 }
 
-// The row of the first half of a binary split. The direction is told apart first: for a known one the shares are too,
-// and the row is the parent's and a number.
+// The direction of a cut as data, so that no branch depends on it: where the exponent of the side that it divides
+// stands in a row's number, and where that corner does.
+fn exponent_place(v: Direction) -> u32
+    ensures { λ r. ⌜ (r ≡ Splits.pick v 40 32) × (r ≤ 40) ⌝ }
+{
+    match v {
+        Direction::Horizontal => 40,
+        Direction::Vertical => 32,
+    }
+}
+
+fn corner_place(v: Direction) -> u32
+    ensures { λ r. ⌜ (r ≡ Splits.pick v 16 0) × (r ≤ 16) ⌝ }
+{
+    match v {
+        Direction::Horizontal => 16,
+        Direction::Vertical => 0,
+    }
+}
+
+// The side that a cut divides.
+fn side_along(row: u64, v: Direction) -> u64
+    ensures { λ r. ⌜ (r ≡ Splits.along v (Words.nodeIn row)) × (r ≤ 128) ⌝ }
+{
+    1 << ((row >> exponent_place(v)) % 8)
+}
+
+// So many quarters of it, as a step of the corner.
+fn step_along(row: u64, v: Direction, start: u32) -> u64
+    requires { ⌜ start ≤ 4 ⌝ }
+    ensures { λ r. ⌜ r ≡ stepAlong row v start ⌝ }
+{
+    (side_along(row, v) / 4 * (start as u64)) << corner_place(v)
+}
+
+// The row of a part of a cut that is so many quarters long, but at its parent's corner.
+fn cut_part(row: u64, v: Direction, size: u32) -> u64
+    ensures { λ r. ⌜ r ≡ cutPart row v size ⌝ }
+{
+    std::num::wrapping_add_u64(row, 72057594037927936 - (fall(size) << exponent_place(v)))
+}
+
+// The rows of the parts of a binary split, which differ in their corners only.
 pub fn first_half(row: u64, v: Direction) -> u64
     ensures { λ r. ⌜ r ≡ childRow row (Binary v) 0 ⌝ }
 {
-    match v {
-        Direction::Horizontal => child_row(row, Decision::Binary(Direction::Horizontal), 0),
-        Direction::Vertical => child_row(row, Decision::Binary(Direction::Vertical), 0),
-    }
+    cut_part(row, v, blocks::share_of(v, BINARY_H, BINARY_V))
 }
 
-// From the corner of the first half to that of the second, in a row's number: where the second's share starts.
-fn half_step(row: u64, v: Direction) -> u64
-    ensures { λ r. ⌜ r ≡ halfStep row v ⌝ }
-{
-    let w = width(row);
-    let h = height(row);
-    match v {
-        Direction::Horizontal => {
-            let part = blocks::part_at(w, h, Decision::Binary(Direction::Horizontal), 1);
-            (part.top as u64) * 65536
-        }
-        Direction::Vertical => {
-            let part = blocks::part_at(w, h, Decision::Binary(Direction::Vertical), 1);
-            part.left as u64
-        }
-    }
-}
-
-// The row of the second half of a binary split: the halves differ in their corners only.
 pub fn second_half(row: u64, v: Direction) -> u64
     ensures { λ r. ⌜ r ≡ childRow row (Binary v) 1 ⌝ }
 {
-    std::num::wrapping_add_u64(first_half(row, v), half_step(row, v))
+    let start = blocks::share_of(v, BINARY_H, BINARY_V);
+    std::num::wrapping_add_u64(first_half(row, v), step_along(row, v, start))
 }
 
-// M, the bound of the MTT depth.
-fn depth_bound(u: &Table) -> u32
-    ensures { λ r. ⌜ r ≡ limitsIn (now (u .entry)) .maxmtt ⌝ }
+// The rows of the parts of a ternary split: the first and the last differ in their corners only.
+pub fn first_third(row: u64, v: Direction) -> u64
+    ensures { λ r. ⌜ r ≡ childRow row (Ternary v) 0 ⌝ }
 {
-    u[2]
+    cut_part(row, v, blocks::share_of(v, TERNARY_H, TERNARY_V))
 }
 
-// What is left to a child above all cuts: QT, and the cuts where M is not 0.
-fn kept_above(u: &Table, out: bool) -> u32
-    ensures { λ r. ⌜ r ≡ keptAbove (now (u .entry)) out ⌝ }
+pub fn middle_third(row: u64, v: Direction) -> u64
+    ensures { λ r. ⌜ r ≡ childRow row (Ternary v) 1 ⌝ }
 {
-    splits::bit(0 < depth_bound(u), 30) + 1 + splits::bit(out, 32)
+    let start = blocks::share_of(v, TERNARY_H, TERNARY_V);
+    let middle = cut_part(row, v, blocks::share_of(v, MIDDLE_H, MIDDLE_V));
+    std::num::wrapping_add_u64(middle, step_along(row, v, start))
 }
 
-// What is left to a part of a cut: these cuts where its depth is below M + F, and never QT.
-fn kept_below(u: &Table, row: u64, offset: u32, out: bool, cuts: u32) -> u32
-    requires { ⌜ cuts < 32 ⌝ }
-    ensures { λ r. ⌜ r ≡ keptBelow (now (u .entry)) row offset out cuts ⌝ }
+pub fn last_third(row: u64, v: Direction) -> u64
+    ensures { λ r. ⌜ r ≡ childRow row (Ternary v) 2 ⌝ }
 {
-    let deep = ((mtt_depth(row) + 1) as u64) < (depth_bound(u) as u64) + (offset as u64);
-    offset % 1024 * 64 + splits::bit(out, 32) + splits::bit(deep, cuts)
-}
-
-// The cuts of a ternary part: the middle one is without the binary cut of its parent's direction.
-fn cuts_of(d: Direction, i: u32) -> u32
-    ensures { λ r. ⌜ (r ≡ cutsOf d i) × (r < 32) ⌝ }
-{
-    if i == 1 {
-        match d {
-            Direction::Horizontal => 28,
-            Direction::Vertical => 26,
-        }
-    } else {
-        30
-    }
-}
-
-// What a binary cut adds to the offset F of its parts.
-fn lift(u: &Table, row: u64, kept: u32, out: bool, d: Direction) -> u32
-    ensures { λ r. ⌜ (r ≡ Splits.bit out (Words.liftIn (now (u .entry)) row kept d)) × (r ≤ 1) ⌝ }
-{
-    if out {
-        splits::lift(limits_of(u), node_of(row, kept), d)
-    } else {
-        0
-    }
-}
-
-// What is left to a child, from its parent's numbers, whether the parent is out, the decision, and the part's number.
-pub fn kept_under(u: &Table, row: u64, kept: u32, out: bool, d: Decision, i: u32) -> u32
-    ensures { λ r. ⌜ r ≡ keptUnder (now (u .entry)) row kept out d i ⌝ }
-{
-    match d {
-        Decision::Leaf => 0,
-        Decision::Quad => kept_above(u, out),
-        Decision::Binary(v) => kept_below(u, row, kept / 64 + lift(u, row, kept, out, v), out, 30),
-        Decision::Ternary(v) => kept_below(u, row, kept / 64, out, cuts_of(v, i)),
-    }
+    let middle = blocks::share_of(v, TERNARY_H, TERNARY_V);
+    let start = middle + blocks::share_of(v, MIDDLE_H, MIDDLE_V);
+    std::num::wrapping_add_u64(first_third(row, v), step_along(row, v, start))
 }

@@ -1,4 +1,4 @@
-// What the walks of one tree are given: its limits, and the splits that each side lets open inside the picture.
+// What the walks of one tree are given: the limits of its kind, and the splits that each side, and the area, let open.
 use tree::BH;
 use tree::BV;
 use tree::Direction;
@@ -8,10 +8,12 @@ use tree::TH;
 use tree::TV;
 ghost use mathlib.Core.Path.{_≡_};
 ghost use Rattle.tree.specs.Splits.{sameDirection};
-ghost use Rattle.nodes.specs.Tables.{sideRights, sideMask, tableOf};
+ghost use Rattle.tree.specs.Kind.{luma};
+ghost use Rattle.tree.specs.Splits.{openSplits};
+ghost use Rattle.nodes.specs.Tables.{sideRights, tableOf};
 
-// The limits of a tree, a zero, and the masks of the widths and of the heights 4 to 128.
-pub type Table = [u32; 20];
+// The limits, a zero, and the masks of the widths and of the heights 4 to 128, and of the areas 16 to 16,384.
+pub type Table = [u32; 31];
 
 fn same(d: Direction, e: Direction) -> bool
     ensures { λ r. ⌜ r ≡ sameDirection d e ⌝ }
@@ -58,7 +60,7 @@ fn quad_by(l: Limits, e: Direction, s: u32) -> bool
 
 // The splits that a side lets open, as one number.
 fn side_mask(l: Limits, e: Direction, s: u32) -> u32
-    ensures { λ r. ⌜ r ≡ sideMask e l s ⌝ }
+    ensures { λ r. ⌜ r ≡ openSplits (sideRights e l s) ⌝ }
 {
     splits::bit(quad_by(l, e, s), QT)
         + splits::bit(binary_by(l, e, s, Direction::Horizontal), BH)
@@ -67,9 +69,12 @@ fn side_mask(l: Limits, e: Direction, s: u32) -> u32
         + splits::bit(ternary_by(l, e, s, Direction::Vertical), TV)
 }
 
-// The table of a tree with these limits.
-pub fn tables(l: Limits) -> Table
-    ensures { λ r. ⌜ r ≡ tableOf l ⌝ }
+// Every split is open.
+const ALL: u32 = 31;
+
+// The table of the luma tree with these limits: it closes nothing by the area.
+pub fn luma_table(l: Limits) -> Table
+    ensures { λ r. ⌜ r ≡ tableOf (luma l) ⌝ }
 {
     [
         l.mincb,
@@ -92,5 +97,16 @@ pub fn tables(l: Limits) -> Table
         side_mask(l, Direction::Horizontal, 32),
         side_mask(l, Direction::Horizontal, 64),
         side_mask(l, Direction::Horizontal, 128),
+        ALL,
+        ALL,
+        ALL,
+        ALL,
+        ALL,
+        ALL,
+        ALL,
+        ALL,
+        ALL,
+        ALL,
+        ALL,
     ]
 }

@@ -2,17 +2,17 @@
 // number and place. The walks call each other with it and return it, since one number is passed in a register.
 ghost use mathlib.Core.Path.{_≡_};
 ghost use mathlib.Core.Bool.{cond};
-ghost use Prim.Native.Nat.{_%_, _<_};
+ghost use Prim.Native.Nat.{_+_, _*_, _%_, _^_, _<_};
 ghost use lib.Dec.{ltb};
 ghost use Rattle.nodes.specs.State as State;
 
-// A child's answer, taken apart: it was walked and the walk goes on from there, or it was refused.
+// A child's answer: it was walked and the walk goes on from there, or it was refused.
 pub enum Child {
     Walked(u64),
     Refused(u64),
 }
 
-pub fn taken_apart(answer: u64) -> Child
+pub fn child_answer(answer: u64) -> Child
     ensures { λ r. ⌜ r ≡ cond (ltb answer 9223372036854775808) (Child.Walked answer) (Child.Refused answer) ⌝ }
 {
     if answer < 9223372036854775808 {
@@ -24,40 +24,61 @@ pub fn taken_apart(answer: u64) -> Child
 
 // The place and the count of a walk that goes on.
 pub fn place(c: u64) -> usize
-    ensures { λ r. ⌜ r ≡ State.placeOf c ⌝ }
+    ensures { λ r. ⌜ (r ≡ State.placeOf c) × (r < 4294967296) ⌝ }
 {
-    (c / 16384) as usize
+    (c % 4294967296) as usize
 }
 
 pub fn count(c: u64) -> usize
-    ensures { λ r. ⌜ (r ≡ State.countOf c) × (r < 16384) ⌝ }
+    ensures { λ r. ⌜ (r ≡ State.countOf c) × (r < 4294967296) ⌝ }
 {
-    (c % 16384) as usize
+    (c / 4294967296) as usize
 }
 
-// A walk that goes on from a place, after so many.
-pub fn going(place: usize, count: usize) -> u64
-    ensures { λ r. ⌜ r ≡ State.going (place % 1125899906842624) (count % 16384) ⌝ }
+// A walk at a place, after so many.
+pub fn position(place: usize, count: usize) -> u64
+    ensures { λ r. ⌜ r ≡ place % 4294967296 + count % 4294967296 * 4294967296 ⌝ }
 {
-    (place % 1125899906842624) as u64 * 16384 + (count % 16384) as u64
+    (place % 4294967296) as u64 + (count % 4294967296) as u64 * 4294967296
+}
+
+// The same walk so many places further.
+pub fn further(c: u64, by: u64) -> u64
+    ensures { λ r. ⌜ r ≡ (c + by) % 2 ^ 64 ⌝ }
+{
+    std::num::wrapping_add_u64(c, by)
+}
+
+// The same walk at another place.
+pub fn moved_to(c: u64, next: usize) -> u64
+    ensures { λ r. ⌜ (r + State.placeOf c) % 2 ^ 64 ≡ (c + next) % 2 ^ 64 ⌝ }
+{
+    std::num::wrapping_add_u64(c, std::num::wrapping_sub_u64(next as u64, place(c) as u64))
+}
+
+// The same walk after one more that is given.
+pub fn one_more(c: u64) -> u64
+    ensures { λ r. ⌜ r ≡ (c + 4294967296) % 2 ^ 64 ⌝ }
+{
+    std::num::wrapping_add_u64(c, 4294967296)
 }
 
 // A walk that is refused.
-pub fn stopping(number: u32, place: usize) -> u64
-    ensures { λ r. ⌜ r ≡ State.stopping (number % 32) (place % 288230376151711744) ⌝ }
+pub fn refusal(number: u32, place: usize) -> u64
+    ensures { λ r. ⌜ r ≡ State.refusal (number % 32) (place % 288230376151711744) ⌝ }
 {
     9223372036854775808 + (place % 288230376151711744) as u64 * 32 + (number % 32) as u64
 }
 
 // The number and the place of its refusal.
 pub fn refusal_number(c: u64) -> u32
-    ensures { λ r. ⌜ r ≡ State.numberOf c ⌝ }
+    ensures { λ r. ⌜ r ≡ State.refusalNumber c ⌝ }
 {
     (c % 32) as u32
 }
 
 pub fn refusal_place(c: u64) -> usize
-    ensures { λ r. ⌜ r ≡ State.refusedAt c ⌝ }
+    ensures { λ r. ⌜ r ≡ State.refusalPlace c ⌝ }
 {
     (c % 9223372036854775808 / 32) as usize
 }

@@ -17,8 +17,6 @@ ghost use Rattle.tree.specs.Splits as Splits;
 ghost use Rattle.tree.specs.Splits.{rightOut, bottomOut, isOut, sameDirection, parentTernary, quadOpen};
 ghost use Rattle.tree.specs.Splits.{binaryNeeds, binaryClosed, binaryOpen};
 ghost use Rattle.tree.specs.Splits.{closedMiddle, ternaryOpen, rightsOf, openSplits};
-ghost use Rattle.tree.specs.Children as Children;
-ghost use Rattle.tree.specs.Children.{cornerInside};
 
 // One of two numbers, and one of two tests, by direction.
 fn pick(d: Direction, a: u32, b: u32) -> u32
@@ -45,7 +43,7 @@ fn right_out(l: Limits, n: Node) -> bool
     (l.width as u64) < (n.x as u64) + (n.w as u64)
 }
 
-pub fn bottom_out(l: Limits, n: Node) -> bool
+fn bottom_out(l: Limits, n: Node) -> bool
     ensures { λ r. ⌜ r ≡ bottomOut l n ⌝ }
 {
     (l.height as u64) < (n.y as u64) + (n.h as u64)
@@ -58,20 +56,6 @@ pub fn out(l: Limits, n: Node) -> bool
     right_out(l, n) | bottom_out(l, n)
 }
 
-// Whether a node's corner is inside the picture; one whose corner is not is skipped.
-pub fn starts_inside(l: Limits, n: Node) -> bool
-    ensures { λ r. ⌜ r ≡ cornerInside l n ⌝ }
-{
-    (n.x < l.width) & (n.y < l.height)
-}
-
-// What a binary cut adds to the offset F of its parts: 1 where the node is out in the dimension that it divides.
-pub fn lift(l: Limits, n: Node, d: Direction) -> u32
-    ensures { λ r. ⌜ r ≡ Children.lift l n d ⌝ }
-{
-    bit(either(d, bottom_out(l, n), right_out(l, n)), 1)
-}
-
 fn quad_open(l: Limits, n: Node) -> bool
     ensures { λ r. ⌜ r ≡ quadOpen l n ⌝ }
 {
@@ -79,7 +63,7 @@ fn quad_open(l: Limits, n: Node) -> bool
 }
 
 // Whether the depth bound leaves room for a cut: D < M + F.
-fn deep_enough(l: Limits, n: Node) -> bool
+fn below_depth_bound(l: Limits, n: Node) -> bool
     ensures { λ r. ⌜ r ≡ ltb (n .mtt) (l .maxmtt + n .offset) ⌝ }
 {
     (n.mtt as u64) < (l.maxmtt as u64) + (n.offset as u64)
@@ -88,7 +72,7 @@ fn deep_enough(l: Limits, n: Node) -> bool
 fn binary_needs(l: Limits, n: Node, d: Direction) -> bool
     ensures { λ r. ⌜ r ≡ binaryNeeds l n d ⌝ }
 {
-    (l.mincb < pick(d, n.h, n.w)) & (n.w <= l.maxbt) & (n.h <= l.maxbt) & deep_enough(l, n)
+    (l.mincb < pick(d, n.h, n.w)) & (n.w <= l.maxbt) & (n.h <= l.maxbt) & below_depth_bound(l, n)
 }
 
 fn same_direction(d: Direction, e: Direction) -> bool
@@ -145,7 +129,7 @@ fn ternary_open(l: Limits, n: Node, d: Direction) -> bool
     (2 * (l.mincb as u64) < (pick(d, n.h, n.w) as u64))
         & (n.w <= side)
         & (n.h <= side)
-        & deep_enough(l, n)
+        & below_depth_bound(l, n)
         & !out(l, n)
 }
 

@@ -18,8 +18,8 @@ pick-requires c κs = search needs
 cast-result-2 : tie.Need-cast-result-2
 cast-result-2 c = search needs
 
-deep-enough-requires : tie.Need-deep-enough-requires
-deep-enough-requires c κs = search needs
+below-depth-bound-requires : tie.Need-below-depth-bound-requires
+below-depth-bound-requires c κs = search needs
 
 out-requires : tie.Need-out-requires
 out-requires c κs = search needs
@@ -37,6 +37,6 @@ ternary-open-spec =
     mul-result
     pick-requires
     cast-result-2
-    deep-enough-requires
+    below-depth-bound-requires
     out-requires
     returns)
