@@ -54,4 +54,4 @@ bounds s a = record {
 }
 
 pub edge-open : EdgeOpen
-edge-open s a h n r out = let root = root-of s a h in reached-opens (root .valid) (root .good) r out
+edge-open s a h n r out = let root = root-of s a h in reached-opens (root .valid) (root .square) r out

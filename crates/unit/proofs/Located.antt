@@ -2,7 +2,6 @@
 use Prim.Native.Nat.{ℕ}
 use mathlib.Core.Path.{_≡_, refl, sym, ap, _∙_}
 use mathlib.Core.Bool.{Bool, true, false, cond}
-use native.Mathlib.Omega.{arith}
 use lib.Dec.{eqb}
 use borrow.Author.Tests.{eqb-true}
 use Rattle.settings.specs.declared.Settings.{Settings}
@@ -10,24 +9,10 @@ use Rattle.settings.specs.declared.Square.{Square}
 use Rattle.settings.specs.declared.Located.{Located}
 use Rattle.settings.specs.declared.Located.the-variants.{At, Refused}
 use Rattle.settings.specs.Units.{unitRefusal, squareAt, located}
-use Rattle.tree.specs.declared.Limits.{Limits}
 use Rattle.tree.specs.declared.Node.{Node}
-use Rattle.tree.specs.declared.Direction.the-variants.{Horizontal, Vertical}
-use Rattle.laws.proofs.Picture.{starts-in}
 use Rattle.laws.proofs.Tests.{never}
-use Rattle.nodes.specs.Rooted.{Rooted}
-use Rattle.unit.specs.Luma.{limitsOf, kindOf, rootOf, rootAt}
+use Rattle.unit.specs.Luma.{rootOf, rootAt}
 use Rattle.unit.proofs.Roots.{Root, root-of}
-
-pub root-rooted : (s : Settings) (a : ℕ) → Root s a → Rooted (limitsOf s) (rootAt s a)
-root-rooted s a r = record {
-  valid = r .valid;
-  good = r .good;
-  here = r .here;
-  top = (refl, refl, refl);
-  right = let x = starts-in (kindOf s) (rootAt s a) (r .here) Vertical in let w = r .good .shape .side Vertical .most in let m = r .usable .width .most in omega arith;
-  bottom = let y = starts-in (kindOf s) (rootAt s a) (r .here) Horizontal in let h = r .good .shape .side Horizontal .most in let m = r .usable .height .most in omega arith;
-}
 
 module _ (s : Settings) (a : ℕ) {r : Located} (e : r ≡ located s a) where
   pub found : {q : Square} → r ≡ At q → (unitRefusal s a ≡ 0) × (q ≡ squareAt s a)
@@ -46,9 +31,10 @@ module _ (s : Settings) (a : ℕ) {r : Located} (e : r ≡ located s a) where
       go true t h = never (cc)
       go false t h = (t, cc)
 
-  module _ {q : Square} (h : r ≡ At q) {l : Limits} {root : Node} (i : l ≡ limitsOf s) (j : root ≡ rootOf q) where
+  module _ {q : Square} (h : r ≡ At q) {root : Node} (j : root ≡ rootOf q) where
     pub same-root : root ≡ rootAt s a
     same-root = j ∙ ap (λ x. rootOf x) (found h .1)
 
-    pub unit-rooted : Rooted l root
-    unit-rooted = rw (i, same-root) (root-rooted s a (root-of s a (found h .0)))
+    -- it has the laws of a unit's root
+    pub unit-root : Root s a
+    unit-root = root-of s a (found h .0)

@@ -27,15 +27,12 @@ module _ {s : Settings} {a : ℕ} (r : Root s a) where
   root-reading = reading-is-tree (r .valid) (r .good) (r .here) (r .fits)
 
   pub root-turning : TurningIsTree (kindOf s) (rootAt s a)
-  root-turning = turning-is-tree (kindOf s) (r .valid) (r .good) (r .here) (r .fits)
+  root-turning = turning-is-tree (r .valid) (r .good) (r .here) (r .fits)
 
   module _ (t : UnitTree s a) where
     -- the bytes of a tree's rows lose nothing, so they say these rows
     pub root-small : Every SmallRow (rowsOf t)
-    root-small =
-        let b = r .valid .leastCb in
-        let q = r .valid .leQt in
-        rows-small (kindOf s) b (omega arith) (r .picture) (r .good .shape) (r .fits) t
+    root-small = rows-small (r .valid) (r .picture) (r .good .shape) (r .fits) t
 
     pub root-said : rowsIn (tableBytes (rowsOf t)) ≡ rowsOf t
     root-said = small-back root-small

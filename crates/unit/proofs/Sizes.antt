@@ -1,6 +1,6 @@
 -- How many rows and flags a unit's coding tree has at most, and the trees behind an accepted reading and the refusal 17.
 use Prim.Native.Nat.{ℕ, _+_, _*_, _≤_, _<_}
-use mathlib.Core.Path.{_≡_, refl, ap, _∙_}
+use mathlib.Core.Path.{_≡_, refl, ap}
 use mathlib.Core.Bool.{false}
 use mathlib.Core.List.{List}
 use mathlib.Core.Logic.{_⊎_, inl, inr}
@@ -8,16 +8,15 @@ use lib.ListN.{length}
 use native.Mathlib.Omega.{arith}
 use native.Mathlib.Nat.{mul-le-mul}
 use Rattle.settings.specs.declared.Settings.{Settings}
-use Rattle.settings.specs.Units.{unitRefusal}
+use Rattle.settings.specs.Units.{unitRefusal, squareAt}
 use Rattle.settings.proofs.Grid.{unit-taken}
-use Rattle.tree.specs.declared.Direction.the-variants.{Horizontal, Vertical}
 use Rattle.tree.specs.Rows.{tableBytes}
 use Rattle.tree.specs.Tree.{flagsOf, rowsOf}
 use Rattle.laws.proofs.FlagAreas.{spare, square-flags}
 use Rattle.laws.proofs.FlagRows.{flags-four-rows}
 use Rattle.laws.proofs.Sizes.{rows-fit}
 use Rattle.unit.specs.declared.Answer.the-variants.{Accepted, Refused}
-use Rattle.unit.specs.Luma.{kindOf, rootAt}
+use Rattle.unit.specs.Luma.{rootAt}
 use Rattle.unit.specs.Reader.{readUnit}
 use Rattle.unit.specs.Writer.{writeFlags}
 use Rattle.unit.specs.Exactly.{UnitTree, Bytes}
@@ -30,34 +29,24 @@ use Rattle.unit.proofs.Accepts.{delivered}
 use Rattle.unit.proofs.UnitFaults.{unit-most}
 
 module _ (s : Settings) (a : ℕ) (h : unitRefusal s a ≡ 0) where
-  least : (4 ≤ s .mincb) × (4 ≤ s .minqt)
-  least =
-      let v = root-of s a h .valid in
-      let b = v .leastCb in
-      let q = v .leQt in
-      omega arith
-
   module _ (t : UnitTree s a) where
     -- a unit has 16,384 samples at most
     pub rows-most : length (rowsOf t) ≤ 1024
     rows-most =
         let r = root-of s a h in
-        let u = r .usable .ctu .most in
-        let x = r .side Vertical in
-        let y = r .side Horizontal in
-        let w : rootAt s a .w ≤ 128 = omega arith in
+        let w = r .square .most in
+        let e = r .square .square in
         let v : rootAt s a .h ≤ 128 = omega arith in
         let m = mul-le-mul w v in
-        let f = rows-fit (kindOf s) (least .0) (least .1) (r .good .shape) t in
+        let f = rows-fit (r .valid) (r .good .shape) t in
         omega arith
 
     pub flags-rows : length (flagsOf t) + 2 ≤ 4 * length (rowsOf t)
-    flags-rows = let r = root-of s a h in flags-four-rows (kindOf s) (least .0) (least .1) (r .good .shape) (r .here) t
+    flags-rows = let r = root-of s a h in flags-four-rows (r .valid) (r .good .shape) (r .here) t
 
     of-side : (side : ℕ) → s .ctu ≡ side → 64 * length (flagsOf t) + 16 * spare side side false ≤ 7 * (side * side)
-    of-side side e =
-        let r = root-of s a h in
-        square-flags (kindOf s) (least .0) (least .1) (r .good .shape) side (r .side Vertical ∙ e) (r .side Horizontal ∙ e) refl t
+    unfolding squareAt
+    of-side side e = let r = root-of s a h in square-flags (r .valid) (r .good .shape) side e e refl t
 
     pub flags-most : length (flagsOf t) ≤ mostFlags (s .ctu)
     flags-most = go (unit-taken s a h .0 .ctu)

@@ -10,7 +10,7 @@ use Rattle.tree.specs.Reading.{levelsLeft}
 use Rattle.tree.specs.Back.{backNode}
 use Rattle.tree.specs.Tree.{Tree, flagsOf, rowsOf}
 use Rattle.laws.proofs.Runs.{gives}
-use Rattle.laws.proofs.Stops.{Plain, back-plain}
+use Rattle.laws.proofs.BackRefusals.{BackFine, back-fine}
 use Rattle.laws.proofs.Turning.{TurningIsTree}
 use Rattle.unit.specs.Writer.{noneLeft, flagsFrom}
 
@@ -25,9 +25,9 @@ module _ {k : Kind} {n : Node} (r : TurningIsTree k n) where
 
   pub turned-or-refused : (rows : List Row) → RowsTurned k n rows
   unfolding flagsFrom noneLeft
-  turned-or-refused rows = go (backNode k n rows .end) refl (back-plain k (levelsLeft n) n rows)
+  turned-or-refused rows = go (backNode k n rows .end) refl (back-fine k (levelsLeft n) n rows)
     where
-      go : (end : End (List Row)) → backNode k n rows .end ≡ end → Plain end → RowsTurned k n rows
+      go : (end : End (List Row)) → backNode k n rows .end ≡ end → BackFine end → RowsTurned k n rows
       go (goes []) e p = let f = r .sound rows [] e in inl (f .trees, sym (f .split ∙ append-nil (rowsOf (f .trees))))
       go (goes (row ∷ rest)) e p = inr (rw e)
       go (stops a b) e p = inr (rw e (rw (p .0, p .1)))

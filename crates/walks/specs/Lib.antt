@@ -1,0 +1,4 @@
+pub mod Stands
+pub mod Kids
+pub mod Walks
+pub mod Rooted

@@ -1,0 +1,34 @@
+-- The root of a tree, as the walk of its root needs it: above all cuts, of any QT depth. A call's contract needs none of this.
+use Prim.Native.Nat.{ℕ}
+use mathlib.Core.Path.{_≡_}
+use mathlib.Core.Bool.{Bool, true}
+use mathlib.Core.List.{List}
+use Rattle.tree.specs.declared.Node.{Node}
+use Rattle.tree.specs.Kind.{Kind}
+use Rattle.tree.specs.Splits.{isOut, rightsOf, openSplits}
+use Rattle.tree.specs.Children.{cornerInside}
+use Rattle.tree.specs.Rows.{rowOf}
+use Rattle.blocks.specs.Words.{rowWord}
+use Rattle.laws.specs.Proper.{Proper}
+use Rattle.nodes.specs.Tables.{tableOf}
+use Rattle.walks.specs.Stands.{Placed}
+
+pub record Rooted (k : Kind) (root : Node) : Type 0 where
+  pub proper : Proper k
+  pub placed : Placed (k .limits) root
+  pub here : cornerInside (k .limits) root ≡ true
+  pub uncut : root .mtt ≡ 0
+
+-- The numbers that the walk of a root is given: the table of its kind, its row, whether it is out of the picture, and its open splits.
+pub record Given (k : Kind) (root : Node) (u : List ℕ) (row : ℕ) (out : Bool) (splits : ℕ) : Type 0 where
+  pub rooted : Rooted k root
+  pub table : u ≡ tableOf k
+  pub row-is : row ≡ rowWord (rowOf root)
+  pub out-is : out ≡ isOut (k .limits) root
+  pub splits-are : splits ≡ openSplits (rightsOf k root)
+
+-- of some root
+pub record SomeRoot (u : List ℕ) (row : ℕ) (out : Bool) (splits : ℕ) : Type 0 where
+  pub kind : Kind
+  pub root : Node
+  pub given : Given kind root u row out splits
