@@ -2,18 +2,16 @@
 use Prim.Native.Nat.{ℕ, _*_, _≤_, _<_}
 use mathlib.Core.Path.{_≡_, refl, sym, ap, _∙_, subst}
 use mathlib.Core.Bool.{Bool, true, false, cond}
-use mathlib.Core.List.{List}
+use mathlib.Core.List.{List, _++_}
 use native.Mathlib.Omega.{arith}
 use lib.Dec.{ltb}
-use lib.ListN.{length}
+use lib.ListN.{length, take, drop}
 use lib.Seq.{sets, sets-eq}
 use borrow.Author.Tests.{lt-ltb, le-ltb, ltb-true, leb-true, leb-false}
 use denote.Enum
 use Rattle.tree.specs.declared.Node.{Node}
 use Rattle.tree.specs.Rows.{rowOf, rowBytes, tableBytes}
-use Rattle.blocks.specs.Copies.{copied}
-use Rattle.blocks.specs.Words.{rowWord, wordBytes, putWord, Put}
-use Rattle.blocks.proofs.Pastes.{copied-all}
+use Rattle.blocks.specs.Words.{rowWord, wordBytes, wordsBytes, putWord, Put}
 use Rattle.blocks.proofs.Words.{word-bytes}
 use Rattle.unit.specs.declared.Answer.the-variants.{Accepted, Refused}
 use Rattle.unit.specs.Answers.{Meets, deliver, finishEnd}
@@ -21,7 +19,7 @@ use Rattle.unit.specs.Reader.{noneAfter}
 use Rattle.nodes.specs.declared.state.Child.{Child}
 use Rattle.nodes.specs.declared.state.Child.the-variants as child
 use Rattle.nodes.proofs.state.Child as C
-use Rattle.nodes.specs.State.{placeOf, countOf, numberOf, refusedAt}
+use Rattle.nodes.specs.State.{placeOf, countOf, refusalNumber, refusalPlace}
 use Rattle.reader.specs.Delivery.{deliverOne, deliverAll}
 
 -- ---- a root that is a leaf
@@ -64,7 +62,7 @@ refused-only true answer e = absurd (omega arith)
 refused-only false answer e = refl
 
 module _ (answer : ℕ) (w : Child) (apart : w ≡ cond (ltb answer 9223372036854775808) (child.Walked answer) (child.Refused answer)) (scratch flags b : List ℕ) where
-  pub all-stop : denote.Enum.Declared.tagOf C.the-type w ≡ 1 → (number place : ℕ) → number ≡ numberOf answer → place ≡ refusedAt answer
+  pub all-stop : denote.Enum.Declared.tagOf C.the-type w ≡ 1 → (number place : ℕ) → number ≡ refusalNumber answer → place ≡ refusalPlace answer
       → Meets (deliverAll answer scratch flags b) (Refused number place) b
   unfolding deliverAll
   all-stop tag number place e f =
@@ -83,20 +81,17 @@ module _ (answer : ℕ) (w : Child) (apart : w ≡ cond (ltb answer 922337203685
       unfolding deliverAll
       all-more h = rw (read-is .0, at-place, lt-ltb _ _ h) (record { answers = refl; leaves = refl })
 
-      module _ (all : length flags ≤ at) (n : ℕ) (n-is : (n ≡ countOf end) × (n < 16384)) where
+      module _ (all : length flags ≤ at) (n : ℕ) (n-is : n ≡ countOf end) where
         n-count : countOf answer ≡ n
-        n-count = sym (n-is .0 ∙ ap (λ c. countOf c) (read-is .1))
+        n-count = sym (n-is ∙ ap (λ c. countOf c) (read-is .1))
 
-        all-few : (answer < 9223372036854775808 → countOf answer ≤ 1024) → n ≤ 1024
+        pub all-few : (answer < 9223372036854775808 → countOf answer ≤ 1024) → n ≤ 1024
         all-few few = subst (λ (i : ℕ). i ≤ 1024) n-count (few (ltb-true _ _ (read-is .0)))
 
         pub all-short : length b < n * 8 → Meets (deliverAll answer scratch flags b) (Refused 14 n) b
         unfolding deliverAll
         all-short h = rw (read-is .0, at-place, n-count, le-ltb _ _ all, lt-ltb _ _ h) (record { answers = refl; leaves = refl })
 
-        pub all-done : n * 8 ≤ length b → (answer < 9223372036854775808 → countOf answer ≤ 1024) → length scratch ≡ 8192 → (z : List ℕ) → z ≡ copied (n * 8) scratch b
-            → Meets (deliverAll answer scratch flags b) (Accepted n) z
+        pub all-done : n * 8 ≤ length b → (z : List ℕ) → z ≡ wordsBytes (take n scratch) ++ drop (n * 8) b → Meets (deliverAll answer scratch flags b) (Accepted n) z
         unfolding deliverAll
-        all-done h few len z e =
-            let m = all-few few in
-            rw (read-is .0, at-place, n-count, le-ltb _ _ all, le-ltb _ _ h) (record { answers = refl; leaves = e ∙ copied-all (n * 8) scratch b h (omega arith) })
+        all-done h z e = rw (read-is .0, at-place, n-count, le-ltb _ _ all, le-ltb _ _ h) (record { answers = refl; leaves = e })

@@ -1,7 +1,6 @@
-pub mod Rows
 pub mod Way
-pub mod Node
-pub mod Numbers
+pub mod Seen
+pub mod Decided
 pub mod Ends
 pub mod Delivery
 pub mod Whole

@@ -27,4 +27,4 @@ module _ (s : Settings) (a : ℕ) {r : Located} (e : r ≡ located s a) (flags b
   unfolding readUnit
   unit-read h {l} {root} i j {said} {left} m =
       rw (found s a e h .0)
-      (subst (λ x. Meets (readTree (luma x) (rootAt s a) flags b) said left) i (subst (λ x. Meets (readTree (luma l) x flags b) said left) (same-root s a e h i j) m))
+      (subst (λ x. Meets (readTree (luma x) (rootAt s a) flags b) said left) i (subst (λ x. Meets (readTree (luma l) x flags b) said left) (same-root s a e h j) m))

@@ -1,59 +1,51 @@
 -- The reading is a lawful walk: its rows and its places stay within the area of its nodes.
 use Prim.Native.Nat.{ℕ}
-use mathlib.Core.Path.{_≡_, refl}
-use mathlib.Core.Bool.{Bool, true, false}
-use mathlib.Core.List.{List, [], _∷_}
+use mathlib.Core.Path.{_≡_, refl, ap}
+use mathlib.Core.List.{List, [], _∷_, _++_}
 use native.Mathlib.Omega.{arith}
-use Rattle.tree.specs.declared.Limits.{Limits}
 use Rattle.tree.specs.declared.Node.{Node}
-use Rattle.tree.specs.Kind.{luma}
-use Rattle.tree.specs.Children.{cornerInside}
-use Rattle.tree.specs.Rows.{tableBytes}
+use Rattle.tree.specs.Kind.{Kind}
+use Rattle.tree.specs.Rows.{Row}
 use Rattle.tree.specs.Run.{overAll}
-use Rattle.tree.specs.Reading.{readNode}
-use Rattle.laws.proofs.Areas.{areasOf, spareOf, least-area}
+use Rattle.blocks.specs.Words.{rowWord}
+use Rattle.laws.specs.Areas.{areasOf, spareOf}
+use Rattle.laws.specs.Proper.{Proper}
+use Rattle.laws.proofs.Areas.{least-area}
 use Rattle.laws.proofs.Bounds.{Bound, reading-bound}
-use Rattle.laws.proofs.Edge.{Valid}
-use Rattle.laws.proofs.Runs.{over-gone, over-one}
-use Rattle.nodes.specs.State.{placeOf}
-use Rattle.nodes.specs.Stands.{Word, Stands}
-use Rattle.nodes.specs.Walks.{walkOver, Walked}
-use Rattle.nodes.proofs.Lists.{none-walked}
-use Rattle.nodes.proofs.Lawful.{Lawful}
-use Rattle.reader.specs.Walking.{readWay}
-use Rattle.reader.proofs.Rows.{table-append, table-length}
+use Rattle.walks.specs.Stands.{Placed}
+use Rattle.walks.specs.Walks.{walkOver}
+use Rattle.walks.proofs.Lawful.{Lawful}
+use Rattle.walks.proofs.One.{here-or-gone}
+use Rattle.reader.specs.Walking.{rowWords, readWay}
+
+words-append : (first rest : List Row) → rowWords (first ++ rest) ≡ rowWords first ++ rowWords rest
+unfolding rowWords
+words-append [] rest = refl
+words-append (r ∷ first) rest = ap (λ (w : List ℕ). rowWord r ∷ w) (words-append first rest)
 
 -- the reading of one node is bounded by its area, also where it is skipped
-one-bound : {l : Limits} → Valid l → {n : Node} {w : Word} → Stands l n w → (flags : List ℕ) (c : ℕ) → Bound n (placeOf c) (walkOver (readWay flags) l (n ∷ []) c)
+one-bound : {k : Kind} → Proper k → {n : Node} → Placed (k .limits) n → (flags : List ℕ) (at : ℕ) → Bound n at (walkOver (readWay flags) k (n ∷ []) at)
 unfolding overAll
-one-bound {l} v {n} s flags c = go (cornerInside l n) refl
-  where
-    go : (b : Bool) → cornerInside l n ≡ b → Bound n (placeOf c) (walkOver (readWay flags) l (n ∷ []) c)
-    go true e = rw (over-one (luma l) (readNode (luma l) flags) n (placeOf c) e) (reading-bound v (s .good) (s .sum) e flags (placeOf c))
-    go false e =
-        let a = least-area (s .good .shape) in
-        rw (over-gone (luma l) (readNode (luma l) flags) n [] (placeOf c) e)
-        (record { rows = omega arith; place = λ next h. let f : placeOf c ≡ next = cc in omega arith })
+one-bound {k} v {n} s flags at =
+    here-or-gone (readWay flags) k n at (λ r. Bound n at r) (λ here. reading-bound v (s .good) (s .sum) here flags at)
+    (let a = least-area (s .good .shape) in record { rows = omega arith; place = λ next h. let f : at ≡ next = cc in omega arith })
 
 pub read-lawful : (flags : List ℕ) → Lawful (readWay flags)
 unfolding areasOf spareOf
 read-lawful flags = record {
-  join = table-append;
-  long = table-length;
-  step = λ l n w v s ns c room.
-      let b = one-bound v s flags c in
+  join = words-append;
+  step = λ k n v s ns p count at is room.
+      let b = one-bound v s flags at in
       let q = b .rows in
       let e = room .forRows in
       let f = room .forFlags in
       record {
         small = omega arith;
-        same = λ at h. refl;
-        near = λ at h. let p = b .place at h in omega arith;
-        room = λ at h. let p = b .place at h in record { forRows = omega arith; forFlags = omega arith };
+        room = λ next t h i. let w = b .place t h in record { forRows = omega arith; forFlags = omega arith };
       };
 }
 
--- no nodes: nothing is read
-pub none-read : (flags u : List ℕ) (c : ℕ) (b : List ℕ) → Walked (readWay flags) u c [] b c b
-unfolding tableBytes
-none-read flags u c b = none-walked (readWay flags) u c b refl
+-- nothing is stored of no rows
+pub none-stored : rowWords [] ≡ []
+unfolding rowWords
+none-stored = refl

@@ -8,10 +8,11 @@ use Rattle.tree.specs.declared.Node.{Node}
 use Rattle.tree.specs.Splits.{bit}
 use Rattle.tree.specs.Rows.{rowOf, tableBytes}
 use Rattle.tree.specs.Run.{goes}
+use Rattle.blocks.specs.Words.{wordsBytes}
 use Rattle.unit.specs.declared.Answer.the-variants.{Accepted}
 use Rattle.unit.specs.Answers.{Outcome, refused, finish}
 use Rattle.unit.specs.Reader.{noneAfter}
-use Rattle.nodes.specs.State.{placeOf, countOf, numberOf, refusedAt}
+use Rattle.nodes.specs.State.{placeOf, countOf, refusalNumber, refusalPlace}
 
 -- the first flag, or the lack of an open split, makes the root a leaf: it lies inside the picture, and its split flag is absent or 0
 abbrev pub leafFirst : Bool → ℕ → List ℕ → Bool
@@ -31,5 +32,5 @@ deliverAll answer scratch flags buffer =
     cond (ltb answer 9223372036854775808)
     (cond (ltb (placeOf answer) (length flags)) (refused 13 (placeOf answer) buffer)
     (cond (ltb (length buffer) (countOf answer * 8)) (refused 14 (countOf answer) buffer)
-    (record { answer = Accepted (countOf answer); buffer = take (countOf answer * 8) scratch ++ drop (countOf answer * 8) buffer })))
-    (refused (numberOf answer) (refusedAt answer) buffer)
+    (record { answer = Accepted (countOf answer); buffer = wordsBytes (take (countOf answer) scratch) ++ drop (countOf answer * 8) buffer })))
+    (refused (refusalNumber answer) (refusalPlace answer) buffer)

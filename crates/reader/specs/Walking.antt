@@ -1,19 +1,31 @@
--- The reading as a walk over nodes (crate nodes). A call's contract needs none of this.
+-- The reading as a walk over nodes (crate walks). A call's contract needs none of this.
 use Prim.Native.Nat.{ℕ}
-use mathlib.Core.List.{List}
-use Rattle.tree.specs.Kind.{luma}
-use Rattle.tree.specs.Rows.{Row, tableBytes}
+use mathlib.Core.Path.{_≡_}
+use mathlib.Core.Bool.{Bool, _&&_}
+use mathlib.Core.List.{List, [], _∷_}
+use lib.ListN.{length, getD}
+use lib.Dec.{ltb, eqb}
+use Rattle.tree.specs.Rows.{Row}
 use Rattle.tree.specs.Reading.{readNode}
-use Rattle.nodes.specs.Walks.{Way}
+use Rattle.blocks.specs.Words.{rowWord}
+use Rattle.nodes.specs.State.{placeOf}
+use Rattle.walks.specs.Walks.{Way}
 
--- from a place of the flags to rows, 8 bytes each
+-- rows as they are stored, one number each
+unfoldable pub rowWords : List Row → List ℕ
+rowWords [] = []
+rowWords (r ∷ rows) = rowWord r ∷ rowWords rows
+
+-- from a place of the flags to rows
 abbrev pub readWay : List ℕ → Way Row ℕ
 readWay flags = record {
-  go = λ l n at. readNode (luma l) flags n at;
-  stateAt = λ place. place;
-  placeIn = λ at. at;
-  bytes = tableBytes;
-  wide = 8;
+  go = λ k n at. readNode k flags n at;
+  at = λ place s. place ≡ s;
+  stored = rowWords;
   rows = λ place count. count;
   flags = λ place count. place;
 }
+
+-- the next flag is 0
+abbrev pub zeroNext : List ℕ → ℕ → Bool
+zeroNext flags c = ltb (placeOf c) (length flags) && eqb (getD flags (placeOf c) 0) 0

@@ -52,7 +52,7 @@ pub(crate) fn all_rows(answer: u64, scratch: &Scratch, flags: &[u8], rows: &mut 
     requires { ⌜ (answer < 9223372036854775808 → countOf answer ≤ 1024) ⌝ }
     ensures { λ r. ⌜ Meets (deliverAll answer (now (scratch .entry)) (now (flags .entry)) (now (rows .entry))) r (now (rows .exit)) ⌝ }
 {
-    let Child::Walked(end) = nodes::taken_apart(answer) else {
+    let Child::Walked(end) = nodes::child_answer(answer) else {
         return Answer::Refused(nodes::refusal_number(answer), nodes::refusal_place(answer));
     };
     let at = nodes::place(end);
@@ -63,6 +63,6 @@ pub(crate) fn all_rows(answer: u64, scratch: &Scratch, flags: &[u8], rows: &mut 
     if rows.len() < n * 8 {
         return Answer::Refused(14, n);
     }
-    blocks::copy_front(rows, scratch, n * 8);
+    blocks::copy_words(rows, scratch, n);
     Answer::Accepted(n)
 }

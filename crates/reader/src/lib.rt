@@ -1,44 +1,68 @@
 // The reader of a single unit: flags become rows, or document 01's refusals 1 to 14.
 mod deliver;
+mod edge;
+mod inside;
 mod scratch;
-mod walk;
 
+use nodes::Table;
+use scratch::Scratch;
 use settings::Located;
 use settings::Settings;
-use tree::Decision;
 use tree::Limits;
 use tree::Node;
 use unit::Answer;
-ghost use Rattle.tree.specs.Kind.{luma};
+ghost use mathlib.Core.Path.{_≡_};
+ghost use mathlib.Core.Bool.{false};
+ghost use lib.ListN.{length};
+ghost use Rattle.tree.specs.Kind.{Kind, luma};
+ghost use Rattle.tree.specs.Reading.{readNode};
+ghost use Rattle.tree.specs.declared.Node as Nodes;
 ghost use Rattle.unit.specs.Answers.{Meets};
 ghost use Rattle.unit.specs.Reader.{readTree, readUnit};
-ghost use Rattle.nodes.specs.Rooted.{Rooted};
+ghost use Rattle.walks.specs.Rooted.{Rooted, Given, SomeRoot};
+ghost use Rattle.walks.specs.Walks.{Done};
+ghost use Rattle.reader.specs.Walking.{readWay};
+ghost use Rattle.reader.specs.Delivery.{leafFirst};
+
+// The walk of a root that is no leaf. One that is out is above all cuts, as a child of a quad split is.
+fn root_walk(u: &Table, flags: &[u8], rows: &mut Scratch, row: u64, out: bool, splits: u32) -> u64
+    requires { ⌜ SomeRoot (now u) row out splits × (leafFirst out splits (now flags) ≡ false) × (length (now rows) ≡ 1024) ⌝ }
+    ensures { λ r. ⌜ ((k : Kind) (root : Nodes.Node) → Given k root (now (u .entry)) row out splits → Done (readWay (now (flags .entry))) (readNode k (now (flags .entry)) root 0) 0 (now (rows .entry)) r (now (rows .exit))) ⌝ }
+{
+    if out {
+        return edge::node_walk(u, flags, rows, 0, row, nodes::depth_above(u));
+    }
+    inside::node_walk(u, flags, rows, 0, row, nodes::bound(u, 0), splits)
+}
 
 // The reading of a whole tree by a walk into a scratch table of 1,024 rows.
-fn read_all(l: Limits, root: Node, flags: &[u8], rows: &mut [u8]) -> Answer
-    requires { ⌜ Rooted l root ⌝ }
-    ensures { λ r. ⌜ Meets (readTree (luma l) root (now (flags .entry)) (now (rows .entry))) r (now (rows .exit)) ⌝ }
+fn read_all(u: &Table, row: u64, out: bool, splits: u32, flags: &[u8], rows: &mut [u8]) -> Answer
+    requires { ⌜ SomeRoot (now u) row out splits × (leafFirst out splits (now flags) ≡ false) ⌝ }
+    ensures { λ r. ⌜ ((k : Kind) (root : Nodes.Node) → Given k root (now (u .entry)) row out splits → Meets (readTree k root (now (flags .entry)) (now (rows .entry))) r (now (rows .exit))) ⌝ }
 {
-    let u = nodes::tables(l);
-    let row = blocks::row_word(root);
-    // A root is above all cuts, as a child of a quad split is, and may reach past the picture.
-    let kept = nodes::kept_under(&u, row, 0, true, Decision::Quad, 0);
-    let mut scratch = [0u8; 8192];
-    let answer = walk::node_walk(&u, flags, &mut scratch, 0, row, kept);
+    let mut scratch = [0u64; 1024];
+    let answer = root_walk(u, flags, &mut scratch, row, out, splits);
     deliver::all_rows(answer, &scratch, flags, rows)
 }
 
 // The reading of a whole tree; a root that is a leaf needs no walk.
 fn read_tree(l: Limits, root: Node, flags: &[u8], rows: &mut [u8]) -> Answer
-    requires { ⌜ Rooted l root ⌝ }
+    requires { ⌜ Rooted (luma l) root ⌝ }
     ensures { λ r. ⌜ Meets (readTree (luma l) root (now (flags .entry)) (now (rows .entry))) r (now (rows .exit)) ⌝ }
 {
-    let splits = splits::open_splits(l, root);
-    if deliver::is_leaf(splits::out(l, root), splits, flags) {
-        deliver::one_row(root, deliver::leaf_flags(splits), flags, rows)
-    } else {
-        read_all(l, root, flags, rows)
+    let out = splits::out(l, root);
+    // QT is open at most roots, and then no other split plays a part in a leaf.
+    if l.minqt < root.w {
+        if deliver::is_leaf(out, 1, flags) {
+            return deliver::one_row(root, 1, flags, rows);
+        }
     }
+    let splits = splits::open_splits(l, root);
+    if deliver::is_leaf(out, splits, flags) {
+        return deliver::one_row(root, deliver::leaf_flags(splits), flags, rows);
+    }
+    let u = nodes::luma_table(l);
+    read_all(&u, blocks::row_word(root), out, splits, flags, rows)
 }
 
 // Reads the flags of the unit at an address: answers the number of its rows, which are then the first bytes of the

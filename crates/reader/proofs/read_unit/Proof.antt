@@ -1,24 +1,9 @@
 use denote.Ref.{now}
 use borrow.Author.Needs.{needs}
-use Rattle.unit.proofs.Located.{unit-rooted}
+use Rattle.walks.proofs.UnitRoots.{unit-rooted}
 use Rattle.reader.proofs.Units.{unit-refused, unit-read}
 use Rattle.reader.proofs.read_unit.Statement.{statement}
 use Rattle.reader.proofs.read_unit.Tie as tie
-
-unit-at-requires : tie.Need-unit-at-requires
-unit-at-requires c κs = search needs
-
-enum-known-number : tie.Need-enum-known-number
-enum-known-number c = search needs
-
-enum-known-q : tie.Need-enum-known-q
-enum-known-q c = search needs
-
-limits-requires : tie.Need-limits-requires
-limits-requires c κs = search needs
-
-root-requires : tie.Need-root-requires
-root-requires c κs = search needs
 
 read-tree-requires : tie.Need-read-tree-requires
 read-tree-requires c κs =
@@ -36,9 +21,6 @@ returns c =
     let a = ua .before .before .before .args in
     unit-refused (a .s) (a .address) (ua .unit-at .ensures) (now (a .flags)) (now (a .rows)) (nu .number .given .1)
 
-same-length : tie.Need-same-length
-same-length c = search needs
-
 returns-2 : tie.Need-returns-2
 returns-2 c =
     let rt = c .before .before in
@@ -52,13 +34,5 @@ returns-2 c =
 pub read-unit-spec : {M : Type 1} → statement M
 read-unit-spec =
     tie.close
-    (tie.spec
-    unit-at-requires
-    enum-known-number
-    enum-known-q
-    limits-requires
-    root-requires
-    read-tree-requires
-    returns
-    same-length
+    (tie.spec (λ c κs. search needs) (λ c. search needs) (λ c. search needs) (λ c κs. search needs) (λ c κs. search needs) read-tree-requires returns (λ c. search needs)
     returns-2)

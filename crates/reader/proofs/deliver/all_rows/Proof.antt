@@ -1,33 +1,16 @@
+use native.Mathlib.Omega.{arith}
 use denote.Ref.{now}
+use Rattle.reader.proofs.Ends.{all-stop, all-more, all-short, all-few, all-done}
 use borrow.Author.Needs.{needs}
-use Rattle.reader.proofs.Ends.{all-stop, all-more, all-short, all-done}
 use Rattle.reader.proofs.deliver.all_rows.Statement.{statement}
 use Rattle.reader.proofs.deliver.all_rows.Tie as tie
-
-taken-apart-requires : tie.Need-taken-apart-requires
-taken-apart-requires c κs = search needs
-
-enum-known-end : tie.Need-enum-known-end
-enum-known-end c = search needs
-
-enum-told : tie.Need-enum-told
-enum-told c = search needs
-
-refusal-number-requires : tie.Need-refusal-number-requires
-refusal-number-requires c κs = search needs
-
-refusal-place-requires : tie.Need-refusal-place-requires
-refusal-place-requires c κs = search needs
 
 returns : tie.Need-returns
 returns c =
     let at = c .before .before .before in
     let taken = at .before in
     let a = taken .before .before .before .args in
-    all-stop (a .answer) _ (taken .taken-apart .ensures) (now (a .scratch)) (now (a .flags)) (now (a .rows)) (at .match .keys2) _ _ (c .before .refusal-number .ensures) (c .refusal-place .ensures)
-
-place-requires : tie.Need-place-requires
-place-requires c κs = search needs
+    all-stop (a .answer) _ (taken .child-answer .ensures) (now (a .scratch)) (now (a .flags)) (now (a .rows)) (at .match .keys2) _ _ (c .before .refusal-number .ensures) (c .refusal-place .ensures)
 
 returns-2 : tie.Need-returns-2
 returns-2 c =
@@ -35,13 +18,7 @@ returns-2 c =
     let end = place .before .before in
     let taken = end .before .before in
     let a = taken .before .before .before .args in
-    all-more (a .answer) _ (taken .taken-apart .ensures) (now (a .scratch)) (now (a .flags)) (now (a .rows)) _ (end .end .given .1) _ (place .place .ensures) (c .if1 .taken)
-
-count-requires : tie.Need-count-requires
-count-requires c κs = search needs
-
-mul-if2 : tie.Need-mul-if2
-mul-if2 c = search needs
+    all-more (a .answer) _ (taken .child-answer .ensures) (now (a .scratch)) (now (a .flags)) (now (a .rows)) _ (end .end .given .1) _ (place .place .ensures .0) (c .if1 .taken)
 
 returns-3 : tie.Need-returns-3
 returns-3 c =
@@ -51,47 +28,35 @@ returns-3 c =
     let end = place .before .before in
     let taken = end .before .before in
     let a = taken .before .before .before .args in
-    all-short (a .answer) _ (taken .taken-apart .ensures) (now (a .scratch)) (now (a .flags)) (now (a .rows)) _ (end .end .given .1) _ (place .place .ensures) (test .if1 .left) _ (count .count .ensures) (c .if2 .taken)
+    all-short (a .answer) _ (taken .child-answer .ensures) (now (a .scratch)) (now (a .flags)) (now (a .rows)) _ (end .end .given .1) _ (place .place .ensures .0) (test .if1 .left) _ (count .count .ensures .0) (c .if2 .taken)
 
-mul-copy-front : tie.Need-mul-copy-front
-mul-copy-front c = search needs
-
-copy-front-requires : tie.Need-copy-front-requires
-copy-front-requires c κs = search needs
-
-same-length : tie.Need-same-length
-same-length c = search needs
-
-returns-4 : tie.Need-returns-4
-returns-4 c =
-    let copied = c .before .before in
-    let scratch = copied .before in
-    let room = scratch .before .before in
+copy-words-requires : tie.Need-copy-words-requires
+copy-words-requires c κs =
+    let room = c .before .before in
     let count = room .before in
     let test = count .before in
     let place = test .before in
     let end = place .before .before in
     let taken = end .before .before in
-    let start = taken .before .before .before in
-    let a = start .args in
-    all-done (a .answer) _ (taken .taken-apart .ensures) (now (a .scratch)) (now (a .flags)) (now (a .rows)) _ (end .end .given .1) _ (place .place .ensures) (test .if1 .left) _ (count .count .ensures) (room .if2 .left) (start .pre) (scratch .copy-front-arg2 .given .0) _ (copied .copy-front .ensures)
+    let a = taken .before .before .before .args in
+    let few = all-few (a .answer) _ (taken .child-answer .ensures) (now (a .scratch)) (now (a .flags)) (now (a .rows)) _ (end .end .given .1) _ (place .place .ensures .0) (test .if1 .left) _ (count .count .ensures .0) (taken .before .before .before .pre) in
+    let long = c .copy-words-arg2 .given .0 in
+    (room .if2 .left, omega arith)
+
+returns-4 : tie.Need-returns-4
+returns-4 c =
+    let copied = c .before .before in
+    let room = copied .before .before .before in
+    let count = room .before in
+    let test = count .before in
+    let place = test .before in
+    let end = place .before .before in
+    let taken = end .before .before in
+    let a = taken .before .before .before .args in
+    all-done (a .answer) _ (taken .child-answer .ensures) (now (a .scratch)) (now (a .flags)) (now (a .rows)) _ (end .end .given .1) _ (place .place .ensures .0) (test .if1 .left) _ (count .count .ensures .0) (room .if2 .left) _ (copied .copy-words .ensures)
 
 pub all-rows-spec : {M : Type 1} → statement M
 all-rows-spec =
     tie.close
-    (tie.spec
-    taken-apart-requires
-    enum-known-end
-    enum-told
-    refusal-number-requires
-    refusal-place-requires
-    returns
-    place-requires
-    returns-2
-    count-requires
-    mul-if2
-    returns-3
-    mul-copy-front
-    copy-front-requires
-    same-length
-    returns-4)
+    (tie.spec (λ c κs. search needs) (λ c. search needs) (λ c. search needs) (λ c κs. search needs) (λ c κs. search needs) returns (λ c κs. search needs) returns-2
+    (λ c κs. search needs) (λ c. search needs) returns-3 copy-words-requires (λ c. search needs) returns-4)

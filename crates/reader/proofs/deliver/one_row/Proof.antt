@@ -9,15 +9,6 @@ returns c =
     let a = c .before .before .before .args in
     one-more (a .root) (a .next) (now (a .flags)) (now (a .rows)) (c .if1 .taken)
 
-row-word-requires : tie.Need-row-word-requires
-row-word-requires c κs = search needs
-
-put-row-requires : tie.Need-put-row-requires
-put-row-requires c κs = search needs
-
-same-length : tie.Need-same-length
-same-length c = search needs
-
 returns-2 : tie.Need-returns-2
 returns-2 c =
     let put = c .before .before .before in
@@ -25,9 +16,6 @@ returns-2 c =
     let test = word .before .before in
     let a = test .before .before .before .args in
     one-done (a .root) (a .next) (now (a .flags)) (now (a .rows)) (test .if1 .left) _ (word .row-word .ensures) _ _ (put .put-row .ensures) (c .if2 .taken)
-
-same-length-2 : tie.Need-same-length-2
-same-length-2 c = search needs
 
 returns-3 : tie.Need-returns-3
 returns-3 c =
@@ -38,4 +26,4 @@ returns-3 c =
     one-short (a .root) (a .next) (now (a .flags)) (now (a .rows)) (test .if1 .left) _ (word .row-word .ensures) _ _ (put .put-row .ensures) (c .if2 .left)
 
 pub one-row-spec : {M : Type 1} → statement M
-one-row-spec = tie.close (tie.spec returns row-word-requires put-row-requires same-length returns-2 same-length-2 returns-3)
+one-row-spec = tie.close (tie.spec returns (λ c κs. search needs) (λ c κs. search needs) (λ c. search needs) returns-2 (λ c. search needs) returns-3)
