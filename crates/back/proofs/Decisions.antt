@@ -1,60 +1,41 @@
--- The cut and the decision at a node, case by case.
-use Prim.Native.Nat.{_+_, _*_, _/_, _≤_, _<_}
-use mathlib.Core.Path.{_≡_, refl}
-use mathlib.Core.Bool.{Bool, true, false, cond, _||_}
+-- The decision at a node that is not a leaf, inside the picture and out of it, as the code finds it.
+use mathlib.Core.Path.{_≡_, refl, sym}
+use mathlib.Core.Bool.{Bool, true, false, not, cond, _&&_, _||_}
 use mathlib.Core.List.{List, _∷_}
-use borrow.Author.Tests.{lt-ltb, le-ltb, eq-eqb, ne-eqb}
-use native.Mathlib.Omega.{arith}
-use Rattle.sides.proofs.Bools.{clash, or-none-left, or-none-right}
+use lib.Dec.{ltb}
 use Rattle.tree.specs.declared.Limits.{Limits}
 use Rattle.tree.specs.declared.Node.{Node}
 use Rattle.tree.specs.declared.Direction.the-variants.{Horizontal, Vertical}
-use Rattle.tree.specs.declared.Decision.the-variants.{Leaf, Quad, Binary, Ternary}
-use Rattle.tree.specs.Splits.{rightOut, bottomOut, isOut}
-use Rattle.tree.specs.Rows.{Row}
-use Rattle.tree.specs.Back.{reach, meets, cutFrom, decisionFrom}
-
--- ---- the cut of a node inside the picture
-
-pub cut-is : (n : Node) (rows : List Row)
-    → cutFrom n rows
-    ≡ cond (reach Horizontal (n .x + n .w) (n .y + n .h / 4 * 2) rows) (Binary Horizontal)
-    (cond (reach Vertical (n .x + n .w / 4 * 2) (n .y + n .h) rows) (Binary Vertical)
-    (cond (reach Horizontal (n .x + n .w) (n .y + n .h / 4) rows) (Ternary Horizontal) (Ternary Vertical)))
-unfolding cutFrom meets
-cut-is n rows = let e : n .h / 4 * 1 ≡ n .h / 4 = omega arith in rw e
-
--- ---- the decision
-
-or-first : (a b : Bool) → (a || b) ≡ true → b ≡ false → a ≡ true
-or-first true b h k = refl
-or-first false b h k = clash h k
+use Rattle.tree.specs.declared.Decision.the-variants.{Leaf, Quad, Binary}
+use Rattle.tree.specs.Splits.{rightOut, bottomOut, inside}
+use Rattle.tree.specs.Rows.{Row, rowOf}
+use Rattle.tree.specs.Back.{cutFrom, sameRow, decisionFrom}
+use Rattle.laws.proofs.Tests.{never}
 
 module _ (l : Limits) (n : Node) (r : Row) (rows : List Row) where
-  pub next-quad : n .qt < r .qt → decisionFrom l n r rows ≡ Quad
+  pub own-next : inside l n ≡ true → sameRow r (rowOf n) ≡ true → decisionFrom l n r rows ≡ Leaf
   unfolding decisionFrom
-  next-quad q = rw (lt-ltb (n .qt) (r .qt) q)
+  own-next i own = rw (i, own)
 
-  module _ (q : r .qt ≤ n .qt) where
-    pub next-leaf : r .mtt ≡ n .mtt → decisionFrom l n r rows ≡ Leaf
-    unfolding decisionFrom
-    next-leaf m = rw (le-ltb (n .qt) (r .qt) q, eq-eqb (r .mtt) (n .mtt) m)
+  pub inside-next : inside l n ≡ true → sameRow r (rowOf n) ≡ false → decisionFrom l n r rows ≡ cond (ltb (n .qt) (r .qt)) Quad (cutFrom n (r ∷ rows))
+  unfolding decisionFrom
+  inside-next i other = go (rightOut l n) (bottomOut l n) (sameRow r (rowOf n)) other i
+    where
+      go : (o b s : Bool) → s ≡ false → not (o || b) ≡ true
+          → cond (not (o || b) && s) Leaf (cond (ltb (n .qt) (r .qt)) Quad (cond b (Binary Horizontal) (cond o (Binary Vertical) (cutFrom n (r ∷ rows)))))
+          ≡ cond (ltb (n .qt) (r .qt)) Quad (cutFrom n (r ∷ rows))
+      go true b s f e = never (sym e)
+      go false true s f e = never (sym e)
+      go false false s f e = rw f
 
-    module _ (m : ¬ (r .mtt ≡ n .mtt)) where
-      pub next-bottom : bottomOut l n ≡ true → decisionFrom l n r rows ≡ Binary Horizontal
-      unfolding decisionFrom
-      next-bottom b = rw (le-ltb (n .qt) (r .qt) q, ne-eqb (r .mtt) (n .mtt) m, b)
-
-      pub next-right : isOut l n ≡ true → bottomOut l n ≡ false → decisionFrom l n r rows ≡ Binary Vertical
-      unfolding decisionFrom
-      next-right o b = rw (le-ltb (n .qt) (r .qt) q, ne-eqb (r .mtt) (n .mtt) m, b, or-first (rightOut l n) (bottomOut l n) o b)
-
-      pub next-cut : isOut l n ≡ false → decisionFrom l n r rows ≡ cutFrom n (r ∷ rows)
-      unfolding decisionFrom
-      next-cut o =
-          rw (
-            le-ltb (n .qt) (r .qt) q,
-            ne-eqb (r .mtt) (n .mtt) m,
-            or-none-right (rightOut l n) (bottomOut l n) o,
-            or-none-left (rightOut l n) (bottomOut l n) o,
-          )
+  pub out-next : inside l n ≡ false → decisionFrom l n r rows ≡ cond (ltb (n .qt) (r .qt)) Quad (cond (bottomOut l n) (Binary Horizontal) (Binary Vertical))
+  unfolding decisionFrom
+  out-next out = go (rightOut l n) (bottomOut l n) out
+    where
+      go : (o b : Bool) → not (o || b) ≡ false
+          → cond (not (o || b) && sameRow r (rowOf n)) Leaf (cond (ltb (n .qt) (r .qt)) Quad (cond b (Binary Horizontal) (cond o (Binary Vertical) (cutFrom n (r ∷ rows)))))
+          ≡ cond (ltb (n .qt) (r .qt)) Quad (cond b (Binary Horizontal) (Binary Vertical))
+      go true true e = refl
+      go true false e = refl
+      go false true e = refl
+      go false false e = never (e)

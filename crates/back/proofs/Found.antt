@@ -1,57 +1,130 @@
--- What the code of the walk was answered, in the terms of the laws of one node.
-use Prim.Native.Nat.{ℕ, _+_, _*_, _%_, _≤_, _<_}
-use mathlib.Core.Path.{_≡_, sym, ap, subst, _∙_}
-use mathlib.Core.Bool.{Bool, true, false, not}
+-- The cut that the marks of a table show is the one that its rows show.
+use Prim.Native.Nat.{ℕ, _+_, _*_, _/_, _%_, _^_, _≤_, _<_}
+use mathlib.Core.Path.{_≡_, refl, sym, ap, subst, _∙_}
+use mathlib.Core.Bool.{Bool, true, false, cond}
 use mathlib.Core.List.{List}
+use borrow.Author.Tests.{lt-ltb, le-ltb, eq-eqb, ne-eqb}
 use native.Mathlib.Omega.{arith}
-use lib.ListN.{length}
-use lib.Dec.{eqb}
-use borrow.Author.Tests.{eqb-true, eq-eqb}
-use Rattle.sides.proofs.Bools.{clash, not-not}
+use lib.Dec.{ltb, eqb}
+use lib.ListN.{length, getD, take}
+use Rattle.sides.proofs.Bools.{clash}
+use Rattle.tree.specs.declared.Direction.{Direction}
+use Rattle.tree.specs.declared.Direction.the-variants.{Horizontal, Vertical}
 use Rattle.tree.specs.declared.Decision.{Decision}
-use Rattle.tree.specs.Splits.{rightsIn, allows}
-use Rattle.tree.specs.Flags.{flagsFor}
-use Rattle.tree.specs.Rows.{rowAt}
-use Rattle.tree.specs.Back.{decisionFrom}
-use Rattle.nodes.specs.State.{placeOf}
-use Rattle.nodes.specs.Tables.{limitsIn}
-use Rattle.nodes.specs.Words.{nodeIn, reachesOut, openIn}
-use Rattle.back.specs.Ahead.{rowsFrom, wordAt, Eight}
-use Rattle.back.proofs.Numbers.{rightsAt, decisionAt}
+use Rattle.tree.specs.declared.Decision.the-variants.{Leaf, Quad, Binary, Ternary}
+use Rattle.tree.specs.Splits.{isSplit}
+use Rattle.tree.specs.Rows.{Row, rowsIn}
+use Rattle.tree.specs.Back.{startsAfter, atLeft, atTop, cutFrom}
+use Rattle.laws.proofs.Starts.{starts-past}
+use Rattle.nodes.specs.Words.{nodeIn}
+use Rattle.back.specs.Table.{rowsFrom, Eight}
+use Rattle.back.specs.Marks.{cornerAfter, cellsBefore, Marked, Begins, isCut, Cut, Divided}
+use Rattle.back.proofs.Corners.{SmallTo, starts-left, starts-top}
+use Rattle.back.proofs.NextRows.{rows-apart, rows-cells}
 
--- a test that the code has turned round
-back : (r : Bool) {v : Bool} → not r ≡ v → r ≡ not v
-back r h = sym (not-not r) ∙ ap not h
+-- ---- the row after so many cells from a row on
 
-module _ (u bytes : List ℕ) (c row kept : ℕ) {at : ℕ} (place : at ≡ placeOf c) where
-  -- there is a next row
-  pub more-is : length bytes % 8 ≡ 0 → at * 8 < length bytes → placeOf c * 8 + 8 ≤ length bytes
-  more-is whole h = omega arith
+module _ {bytes marks : List ℕ} (m : Marked bytes marks) (i count : ℕ) (within : cellsBefore bytes i + count < 1024)
+    {got : ℕ} (e : got ≡ getD marks (1024 + (cellsBefore bytes i + count)) 0) where
+  is-corner : got ≡ cornerAfter (cellsBefore bytes i + count) (rowsIn bytes)
+  is-corner = e ∙ m .starts (cellsBefore bytes i + count) within
 
-  pub none-is : length bytes ≤ at * 8 → length bytes ≤ placeOf c * 8
-  none-is h = omega arith
+  starts-on : (test : Row → Bool) → startsAfter count test (rowsFrom bytes i) ≡ startsAfter (cellsBefore bytes i + count) test (rowsIn bytes)
+  starts-on test =
+      sym (ap (λ rows. startsAfter (cellsBefore bytes i + count) test rows) (sym (rows-apart bytes i)) ∙ starts-past test (rowsFrom bytes i) (take i (rowsIn bytes)) count)
 
-  pub decision-is : {d : Decision} → d ≡ decisionFrom (limitsIn u) (nodeIn row 0) (rowAt bytes (at * 8)) (rowsFrom bytes (at + 1)) → decisionAt u bytes c row ≡ d
-  decision-is {d} e = subst (λ p. decisionFrom (limitsIn u) (nodeIn row 0) (rowAt bytes (p * 8)) (rowsFrom bytes (p + 1)) ≡ d) place (sym e)
+  small-rows : SmallTo bytes (length bytes / 8) 0 (cellsBefore bytes i + count)
+  small-rows j h l = subst (λ (x : ℕ). Eight bytes x) (let s : j * 8 ≡ 0 + j * 8 = omega arith in s) (m .small j h (omega arith))
 
-  -- whether it is the node's own
-  module _ {r : Bool} (e : r ≡ eqb (wordAt bytes (at * 8)) row) where
-    pub same-is : not r ≡ false → wordAt bytes (placeOf c * 8) ≡ row
-    same-is h = subst (λ p. wordAt bytes (p * 8) ≡ row) place (eqb-true (wordAt bytes (at * 8)) row (sym e ∙ back r h))
+  pub left-shown : (x : ℕ) → x < 65535 → startsAfter count (λ r. eqb (r .x) x) (rowsFrom bytes i) ≡ eqb (got % 65536) x
+  left-shown x h = starts-on (λ r. eqb (r .x) x) ∙ starts-left bytes x h (length bytes / 8) 0 (cellsBefore bytes i + count) small-rows ∙ ap (λ g. eqb (g % 65536) x) (sym is-corner)
 
-    pub other-is : not r ≡ true → ¬ (wordAt bytes (placeOf c * 8) ≡ row)
-    other-is h k = clash (eq-eqb (wordAt bytes (at * 8)) row (subst (λ p. wordAt bytes (p * 8) ≡ row) (sym place) k)) (sym e ∙ back r h)
+  pub top-shown : (y : ℕ) → y < 65535 → startsAfter count (λ r. eqb (r .y) y) (rowsFrom bytes i) ≡ eqb (got / 65536) y
+  top-shown y h = starts-on (λ r. eqb (r .y) y) ∙ starts-top bytes y h (length bytes / 8) 0 (cellsBefore bytes i + count) small-rows ∙ ap (λ g. eqb (g / 65536) y) (sym is-corner)
 
-  pub eight-is : Eight bytes (at * 8) → Eight bytes (placeOf c * 8)
-  eight-is h = subst (λ p. Eight bytes (p * 8)) place h
+-- ---- the cut, by what the code has looked up
 
--- the rights, by the masks that were found
-module _ (u : List ℕ) (row kept : ℕ) {out : Bool} {splits : ℕ} (o : out ≡ reachesOut u row kept) (s : splits ≡ openIn u row kept) (d : Decision) where
-  same-rights : rightsIn out splits ≡ rightsAt u row kept
-  same-rights = ap (λ x. rightsIn x splits) o ∙ ap (λ x. rightsIn (reachesOut u row kept) x) s
+-- what a mark shows of the row after so many cells from a place on
+pub record Shows (marks : List ℕ) (row at count got : ℕ) : Type 0 where
+  pub left : {bytes : List ℕ} → Marked bytes marks → Begins bytes row at → startsAfter count (atLeft (nodeIn row)) (rowsFrom bytes (at / 8)) ≡ eqb (got % 65536) (nodeIn row .x)
+  pub top : {bytes : List ℕ} → Marked bytes marks → Begins bytes row at → startsAfter count (atTop (nodeIn row)) (rowsFrom bytes (at / 8)) ≡ eqb (got / 65536) (nodeIn row .y)
 
-  pub allows-is : {r v : Bool} → r ≡ allows (rightsIn out splits) d → not r ≡ v → allows (rightsAt u row kept) d ≡ not v
-  allows-is e h = ap (λ x. allows x d) (sym same-rights) ∙ sym e ∙ back _ h
+module _ (row : ℕ) where
+  pub area-is : {w h : ℕ} → w ≡ 2 ^ (row / 4294967296 % 8) → h ≡ 2 ^ (row / 1099511627776 % 8) → w * h ≡ nodeIn row .w * nodeIn row .h
+  unfolding nodeIn
+  area-is e f = rw (e, f)
 
-  pub flags-is : flagsFor (rightsIn out splits) d ≡ flagsFor (rightsAt u row kept) d
-  flags-is = ap (λ x. flagsFor x d) same-rights
+  pub left-is : {x : ℕ} → x ≡ row % 65536 → x ≡ nodeIn row .x
+  unfolding nodeIn
+  left-is e = e
+
+  pub top-is : {y : ℕ} → y ≡ row / 65536 % 65536 → y ≡ nodeIn row .y
+  unfolding nodeIn
+  top-is e = e
+
+module _ {marks : List ℕ} {row at base area : ℕ} (b : base ≡ getD marks (at / 8 % 1024) 0) (a : area ≡ nodeIn row .w * nodeIn row .h) where
+  module _ {bytes : List ℕ} (m : Marked bytes marks) (g : Begins bytes row at) where
+    base-is : base ≡ cellsBefore bytes (at / 8)
+    base-is =
+        let t = g .there in
+        let w = g .within in
+        let r = rows-cells bytes (at / 8) (omega arith) in
+        let e : at / 8 % 1024 ≡ at / 8 = omega arith in
+        b ∙ ap (λ i. getD marks i 0) e ∙ m .before (at / 8) (omega arith) (omega arith)
+
+    looked : (count : ℕ) → count ≤ area / 32 → {sum got : ℕ} → sum ≡ (base + count) % 2 ^ 32 → got ≡ getD marks (1024 + sum % 1024) 0
+        → (cellsBefore bytes (at / 8) + count < 1024) × (got ≡ getD marks (1024 + (cellsBefore bytes (at / 8) + count)) 0)
+    looked count h {sum} s f =
+        let w = g .within in
+        let i = base-is in
+        let less : cellsBefore bytes (at / 8) + count < 1024 = omega arith in
+        let e : sum % 1024 ≡ cellsBefore bytes (at / 8) + count = omega arith in
+        (less, f ∙ ap (λ c. getD marks (1024 + c) 0) e)
+
+  pub shows : {count : ℕ} → count ≤ area / 32 → {sum got : ℕ} → sum ≡ (base + count) % 2 ^ 32 → got ≡ getD marks (1024 + sum % 1024) 0 → Shows marks row at count got
+  shows {count} h s f = record {
+    left = λ m g. let l = looked m g count h s f in left-shown m (at / 8) count (l .0) (l .1) (nodeIn row .x) (g .left);
+    top = λ m g. let l = looked m g count h s f in top-shown m (at / 8) count (l .0) (l .1) (nodeIn row .y) (g .top);
+  }
+
+module _ {marks : List ℕ} {row at half : ℕ} (s : Shows marks row at (nodeIn row .w * nodeIn row .h / 32) half) where
+  pub cut-flat : half % 65536 ≡ nodeIn row .x → Cut marks row at (Binary Horizontal)
+  unfolding cutFrom
+  cut-flat h = record { cut = refl; found = λ bytes m g. rw (s .left m g, eq-eqb _ _ h) }
+
+  module _ (no-left : ¬ (half % 65536 ≡ nodeIn row .x)) where
+    pub cut-steep : half / 65536 ≡ nodeIn row .y → Cut marks row at (Binary Vertical)
+    unfolding cutFrom
+    cut-steep h = record { cut = refl; found = λ bytes m g. rw (s .left m g, ne-eqb _ _ no-left, s .top m g, eq-eqb _ _ h) }
+
+    pub cut-in-three : ¬ (half / 65536 ≡ nodeIn row .y) → {quarter : ℕ} → Shows marks row at (nodeIn row .w * nodeIn row .h / 64) quarter → {b : Bool} → eqb (quarter % 65536) (nodeIn row .x) ≡ b
+        → Cut marks row at (cond b (Ternary Horizontal) (Ternary Vertical))
+    unfolding cutFrom
+    cut-in-three no-top q {b} h = record { cut = some b; found = λ bytes m g. rw (s .left m g, ne-eqb _ _ no-left, s .top m g, ne-eqb _ _ no-top, q .left m g, h) }
+      where
+        some : (b : Bool) → isCut (cond b (Ternary Horizontal) (Ternary Vertical)) ≡ true
+        some true = refl
+        some false = refl
+
+-- ---- the decision, by the QT depths
+
+cut-splits : (d : Decision) → isCut d ≡ true → isSplit d ≡ true
+cut-splits Leaf e = e
+cut-splits Quad e = refl
+cut-splits (Binary d) e = refl
+cut-splits (Ternary d) e = refl
+
+module _ {marks : List ℕ} {row next at : ℕ} where
+  pub divided-quad : nodeIn row .qt < nodeIn next .qt → Divided marks row next at Quad
+  divided-quad h = record { split = refl; deeper = λ e. refl; flat = λ e. clash (lt-ltb _ _ h) e; found = λ bytes m g. rw (lt-ltb _ _ h) }
+
+  pub divided-cut : {d : Decision} → nodeIn next .qt ≤ nodeIn row .qt → Cut marks row at d → Divided marks row next at d
+  divided-cut {d} h c = record { split = cut-splits d (c .cut); deeper = λ e. clash e (le-ltb _ _ h); flat = λ e. c .cut; found = λ bytes m g. rw (le-ltb _ _ h) (c .found bytes m g) }
+
+pub out-quad : (row next : ℕ) (bottom : Bool) → nodeIn row .qt < nodeIn next .qt → Quad ≡ cond (ltb (nodeIn row .qt) (nodeIn next .qt)) Quad (cond bottom (Binary Horizontal) (Binary Vertical))
+out-quad row next bottom h = rw (lt-ltb _ _ h)
+
+pub out-cut : (row next : ℕ) (bottom : Bool) {d : Direction} → nodeIn next .qt ≤ nodeIn row .qt → d ≡ cond bottom Horizontal Vertical
+    → Binary d ≡ cond (ltb (nodeIn row .qt) (nodeIn next .qt)) Quad (cond bottom (Binary Horizontal) (Binary Vertical))
+out-cut row next true h e = rw (le-ltb _ _ h, e)
+out-cut row next false h e = rw (le-ltb _ _ h, e)

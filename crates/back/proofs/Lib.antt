@@ -1,8 +1,11 @@
-pub mod Decisions
-pub mod NextRows
-pub mod Puts
-pub mod Way
 pub mod RowWords
-pub mod Node
-pub mod Numbers
+pub mod NextRows
+pub mod Corners
+pub mod Marking
 pub mod Found
+pub mod Decisions
+pub mod Way
+pub mod Turned
+pub mod Decided
+pub mod Steps
+pub mod Whole

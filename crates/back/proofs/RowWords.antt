@@ -1,5 +1,5 @@
--- A row of a table is a leaf's own exactly where their numbers are equal.
-use Prim.Native.Nat.{ℕ, _+_, _*_, _/_, _%_, _<_}
+-- The number of a table's row: its corner, its cells, and that it is a leaf's own exactly where the numbers are equal.
+use Prim.Native.Nat.{ℕ, _+_, _*_, _/_, _%_, _^_, _<_}
 use mathlib.Core.Path.{_≡_, refl, sym, ap, _∙_}
 use mathlib.Core.Bool.{Bool, true, false}
 use mathlib.Core.List.{List}
@@ -10,23 +10,23 @@ use lib.ListN.{getD}
 use Rattle.sides.proofs.Bools.{clash}
 use Rattle.tree.specs.declared.Node.{Node}
 use Rattle.tree.specs.Rows.{Row, rowOf, rowAt, rowBytes}
-use Rattle.tree.specs.Back.{sameRow}
+use Rattle.tree.specs.Back.{cellsOf, sameRow}
 use Rattle.blocks.specs.Words.{wordOf, rowWord, wordBytes}
 use Rattle.blocks.proofs.Words.{word-bytes}
 use Rattle.laws.proofs.SameRow.{same-row}
-use Rattle.nodes.proofs.Sides.{exponent-of}
-use Rattle.nodes.proofs.RowFields.{Fits}
-use Rattle.back.specs.Ahead.{wordAt, Eight}
+use Rattle.walks.proofs.Sides.{exponent-of}
+use Rattle.walks.proofs.RowFields.{Fits}
+use Rattle.back.specs.Table.{wordAt, Eight}
 
 -- ---- rows of small numbers
 
-record Small (r : Row) : Type 0 where
-  at-x : r .x < 65536
-  at-y : r .y < 65536
-  at-ew : r .ew < 256
-  at-eh : r .eh < 256
-  at-qt : r .qt < 256
-  at-mtt : r .mtt < 256
+pub record Small (r : Row) : Type 0 where
+  pub at-x : r .x < 65536
+  pub at-y : r .y < 65536
+  pub at-ew : r .ew < 256
+  pub at-eh : r .eh < 256
+  pub at-qt : r .qt < 256
+  pub at-mtt : r .mtt < 256
 
 of-node : {n : Node} → Fits n → Small (rowOf n)
 unfolding rowOf
@@ -35,7 +35,7 @@ of-node f =
     let h = exponent-of (f .high) .small in
     record { at-x = f .x-fits; at-y = f .y-fits; at-ew = omega arith; at-eh = omega arith; at-qt = f .qt-fits; at-mtt = f .mtt-fits }
 
-of-bytes : {bytes : List ℕ} {i : ℕ} → Eight bytes i → Small (rowAt bytes i)
+pub of-bytes : {bytes : List ℕ} {i : ℕ} → Eight bytes i → Small (rowAt bytes i)
 unfolding rowAt
 of-bytes b =
     let b₀ = b .at-0 in
@@ -99,7 +99,7 @@ own : (a : ℕ) → a < 256 → a % 256 ≡ a
 own a h = omega arith
 
 module _ {bytes : List ℕ} {i : ℕ} (b : Eight bytes i) where
-  at-word : rowWord (rowAt bytes i) ≡ wordAt bytes i
+  pub at-word : rowWord (rowAt bytes i) ≡ wordAt bytes i
   unfolding wordAt wordOf rowBytes rowAt
   at-word =
       rw (
@@ -112,6 +112,38 @@ module _ {bytes : List ℕ} {i : ℕ} (b : Eight bytes i) where
         own _ (b .at-6),
         own _ (b .at-7),
       )
+
+  -- the low half is the corner, and the exponents give the cells
+  pub word-corner : wordAt bytes i % 4294967296 ≡ rowAt bytes i .x + 65536 * rowAt bytes i .y
+  unfolding wordAt wordOf rowAt
+  word-corner = let b₀ = b .at-0 in let b₁ = b .at-1 in let b₂ = b .at-2 in let b₃ = b .at-3 in omega arith
+
+  pub word-cells : 2 ^ ((wordAt bytes i / 4294967296 + wordAt bytes i / 1099511627776 + 12) % 16) ≡ cellsOf (rowAt bytes i)
+  unfolding wordAt wordOf rowAt
+  word-cells = ap (λ e. 2 ^ e) exponents
+    where
+      exponents : (wordAt bytes i / 4294967296 + wordAt bytes i / 1099511627776 + 12) % 16 ≡ (getD bytes (i + 4) 0 + getD bytes (i + 5) 0 + 12) % 16
+      exponents =
+          let b₀ = b .at-0 in
+          let b₁ = b .at-1 in
+          let b₂ = b .at-2 in
+          let b₃ = b .at-3 in
+          let b₄ = b .at-4 in
+          let high : wordAt bytes i / 4294967296 ≡ getD bytes (i + 4) 0 + 256 * (getD bytes (i + 5) 0 + 256 * (getD bytes (i + 6) 0 + 256 * getD bytes (i + 7) 0)) = omega arith in
+          let higher : wordAt bytes i / 1099511627776 ≡ getD bytes (i + 5) 0 + 256 * (getD bytes (i + 6) 0 + 256 * getD bytes (i + 7) 0) = omega arith in
+          rw (high, higher) (omega arith)
+
+  pub word-qt : wordAt bytes i / 281474976710656 % 256 ≡ rowAt bytes i .qt
+  unfolding wordAt wordOf rowAt
+  word-qt =
+      let b₀ = b .at-0 in
+      let b₁ = b .at-1 in
+      let b₂ = b .at-2 in
+      let b₃ = b .at-3 in
+      let b₄ = b .at-4 in
+      let b₅ = b .at-5 in
+      let b₆ = b .at-6 in
+      omega arith
 
   module _ {n : Node} (f : Fits n) where
     pub same-word : wordAt bytes i ≡ rowWord (rowOf n) → sameRow (rowAt bytes i) (rowOf n) ≡ true

@@ -1,97 +1,67 @@
--- The way back is a lawful walk.
-use Prim.Native.Nat.{ℕ, zero, suc, _+_, _-_, _*_, _/_, _%_, _≤_}
+-- The way back is a lawful walk: its flags stay within the area of its nodes, and so do the cells of the rows that it takes.
+use Prim.Native.Nat.{ℕ, _+_, _-_, _*_, _/_}
 use mathlib.Core.Path.{_≡_, refl, sym, ap, _∙_}
-use mathlib.Core.Bool.{Bool, true, false}
 use mathlib.Core.List.{List, [], _∷_}
-use native.Mathlib.Decide.{decLe}
 use native.Mathlib.Omega.{arith}
-use lib.ListN.{length, drop, length-drop}
-use Rattle.tree.specs.declared.Limits.{Limits}
+use lib.ListN.{length, take, length-drop}
 use Rattle.tree.specs.declared.Node.{Node}
-use Rattle.tree.specs.Kind.{luma}
-use Rattle.tree.specs.Children.{cornerInside}
-use Rattle.tree.specs.Rows.{Row, rowsAt}
+use Rattle.tree.specs.Kind.{Kind}
+use Rattle.tree.specs.Rows.{Row}
 use Rattle.tree.specs.Run.{overAll}
-use Rattle.tree.specs.Back.{backNode}
-use Rattle.laws.proofs.Areas.{areasOf, spareOf, least-area}
+use Rattle.laws.specs.Areas.{areasOf, spareOf, cellsOfAll}
+use Rattle.laws.specs.Proper.{Proper}
+use Rattle.laws.proofs.Areas.{least-area}
 use Rattle.laws.proofs.BackBounds.{Taken, BackBound, back-bound}
-use Rattle.laws.proofs.Edge.{Valid}
-use Rattle.laws.proofs.Runs.{over-gone, over-one}
 use Rattle.laws.proofs.Tables.{rows-long}
-use Rattle.nodes.specs.State.{placeOf, countOf}
-use Rattle.nodes.specs.Stands.{Word, Stands}
-use Rattle.nodes.specs.Walks.{Room, walkOver}
-use Rattle.nodes.proofs.Lawful.{Step, Lawful}
-use Rattle.back.specs.Ahead.{rowsFrom, backWay}
+use Rattle.walks.specs.Stands.{Placed}
+use Rattle.walks.specs.Walks.{RoomAt, walkOver}
+use Rattle.walks.proofs.Lawful.{Step, Lawful}
+use Rattle.walks.proofs.One.{here-or-gone}
+use Rattle.back.specs.Marks.{cellsBefore}
+use Rattle.back.specs.Walking.{Left, backWay}
+use Rattle.back.proofs.NextRows.{cells-on}
 
--- ---- rows that are left
+-- ---- rows that are taken
 
-same-rows : (bytes : List ℕ) (m n i j : ℕ) → m ≡ n → i ≡ j → rowsAt m bytes i ≡ rowsAt n bytes j
-same-rows bytes m n i j e f = rw (e, f)
-
-no-rows : (bytes : List ℕ) (m i : ℕ) → m ≡ 0 → rowsAt m bytes i ≡ []
-unfolding rowsAt
-no-rows bytes m i e = rw e
-
-drop-rows : (k m : ℕ) (bytes : List ℕ) (i : ℕ) → drop k (rowsAt m bytes i) ≡ rowsAt (m - k) bytes (i + k * 8)
-unfolding rowsAt
-drop-rows zero m bytes i = same-rows bytes m (m - 0) i (i + 0 * 8) (omega arith) (omega arith)
-drop-rows (suc k) zero bytes i = sym (no-rows bytes (0 - suc k) (i + suc k * 8) (omega arith))
-drop-rows (suc k) (suc m) bytes i = drop-rows k m bytes (i + 8) ∙ same-rows bytes (m - k) (suc m - suc k) (i + 8 + k * 8) (i + suc k * 8) (omega arith) (omega arith)
-
-module _ (bytes : List ℕ) (p : ℕ) where
-  -- the place of rows that are left is the number of rows before them, and they are the rows from there on
-  from-left : (k : ℕ) → k ≤ length bytes / 8 - p → rowsFrom bytes (length bytes / 8 - (length bytes / 8 - p - k)) ≡ drop k (rowsFrom bytes p)
-  from-left k h = go (decLe p (length bytes / 8))
-    where
-      go : Dec (p ≤ length bytes / 8) → rowsFrom bytes (length bytes / 8 - (length bytes / 8 - p - k)) ≡ drop k (rowsFrom bytes p)
-      go (yes g) = same-rows bytes _ (length bytes / 8 - p - k) _ (p * 8 + k * 8) (omega arith) (omega arith) ∙ sym (drop-rows k (length bytes / 8 - p) bytes (p * 8))
-      go (no g) =
-          no-rows bytes _ _ (omega arith) ∙ sym (no-rows bytes (length bytes / 8 - p - k) (p * 8 + k * 8) (omega arith))
-          ∙ sym (drop-rows k (length bytes / 8 - p) bytes (p * 8))
-
-  module _ {area : ℕ} {left : List Row} (t : Taken area (rowsFrom bytes p) left) where
-    left-long : length left ≡ length bytes / 8 - p - t .0
-    left-long = ap length (t .1) ∙ length-drop (t .0) (rowsFrom bytes p) ∙ ap (λ (m : ℕ). m - t .0) (rows-long (length bytes / 8 - p) bytes (p * 8))
-
-    left-some : t .0 ≤ length bytes / 8 - p
-    left-some = let a = t .2 in let b = rows-long (length bytes / 8 - p) bytes (p * 8) in omega arith
-
-    left-same : rowsFrom bytes (length bytes / 8 - length left) ≡ left
-    left-same = rw left-long (from-left (t .0) left-some ∙ sym (t .1))
-
-    left-near : 16 * (length bytes / 8 - length left) ≤ 16 * p + area
-    left-near = let a = left-long in let b = left-some in let c = t .3 in omega arith
+-- the cells before the place at which rows are left, after those before the place from which some were taken
+cells-before : (bytes : List ℕ) {p q area : ℕ} {rows left : List Row} → Left bytes p rows → (t : Taken area rows left) → Left bytes q left
+    → cellsBefore bytes (q / 8) ≡ cellsBefore bytes (p / 8) + cellsOfAll (take (t .0) rows)
+cells-before bytes {p} {q} {area} {rows} {left} a t b =
+    let k = t .0 in
+    let la = ap length (a .from) ∙ rows-long (length bytes / 8 - p / 8) bytes (p / 8 * 8) in
+    let lb = ap length (b .from) ∙ rows-long (length bytes / 8 - q / 8) bytes (q / 8 * 8) in
+    let ld = ap length (t .1) ∙ length-drop k rows in
+    let h = t .2 in
+    let pw = a .within in
+    let qw = b .within in
+    let e : q / 8 ≡ p / 8 + k = omega arith in
+    ap (cellsBefore bytes) e ∙ cells-on bytes (p / 8) k ∙ ap (λ rs. cellsBefore bytes (p / 8) + cellsOfAll (take k rs)) (sym (a .from))
 
 -- ---- one node
 
 -- its way back is bounded by its area, also where it is skipped
-one-bound : (bytes : List ℕ) {l : Limits} → Valid l → {n : Node} {w : Word} → Stands l n w → (c : ℕ) → BackBound n (rowsFrom bytes (placeOf c)) (walkOver (backWay bytes) l (n ∷ []) c)
+one-bound : (bytes : List ℕ) {k : Kind} → Proper k → {n : Node} → Placed (k .limits) n → (rows : List Row) → BackBound n rows (walkOver (backWay bytes) k (n ∷ []) rows)
 unfolding overAll
-one-bound bytes {l} v {n} s c = go (cornerInside l n) refl
-  where
-    go : (b : Bool) → cornerInside l n ≡ b → BackBound n (rowsFrom bytes (placeOf c)) (walkOver (backWay bytes) l (n ∷ []) c)
-    go true e = rw (over-one (luma l) (backNode (luma l)) n (rowsFrom bytes (placeOf c)) e) (back-bound v (s .good) (s .sum) (rowsFrom bytes (placeOf c)))
-    go false e =
-        let a = least-area (s .good .shape) in
-        rw (over-gone (luma l) (backNode (luma l)) n [] (rowsFrom bytes (placeOf c)) e)
-        (record { flags = omega arith; rest = λ left h. (0, cc, omega arith, omega arith) })
+one-bound bytes {k} v {n} s rows =
+    here-or-gone (backWay bytes) k n rows (λ r. BackBound n rows r) (λ here. back-bound v (s .good) (s .sum) rows)
+    (let a = least-area (s .good .shape) in record { flags = omega arith; rest = λ left h. (0, cc, omega arith, omega arith) })
 
-one-step : (bytes : List ℕ) (l : Limits) (n : Node) (w : Word) → Valid l → Stands l n w → (ns : List Node) (c : ℕ)
-    → Room (placeOf c) (countOf c) (n ∷ ns)
-    → Step (backWay bytes) ns (countOf c) (walkOver (backWay bytes) l (n ∷ []) c)
+one-step : (bytes : List ℕ) (k : Kind) (n : Node) → Proper k → Placed (k .limits) n → (ns : List Node) (p count : ℕ) (rows : List Row) → Left bytes p rows
+    → RoomAt (backWay bytes) p count (n ∷ ns) → Step (backWay bytes) ns count (walkOver (backWay bytes) k (n ∷ []) rows)
 unfolding areasOf spareOf
-one-step bytes l n w v s ns c room =
-    let b = one-bound bytes v s c in
+one-step bytes k n v s ns p count rows at room =
+    let b = one-bound bytes v s rows in
     let f = b .flags in
     let i = room .forRows in
     let j = room .forFlags in
     record {
       small = omega arith;
-      same = λ left e. left-same bytes (placeOf c) (b .rest left e);
-      near = λ left e. let k = left-near bytes (placeOf c) (b .rest left e) in omega arith;
-      room = λ left e. let k = left-near bytes (placeOf c) (b .rest left e) in record { forRows = omega arith; forFlags = omega arith };
+      room = λ q left e on.
+          let t = b .rest left e in
+          let c = cells-before bytes at t on in
+          let h = t .3 in
+          record { forRows = omega arith; forFlags = omega arith };
     }
 
-pub back-lawful : (bytes : List ℕ) → length bytes % 8 ≡ 0 → Lawful (backWay bytes)
-back-lawful bytes whole = record { join = λ xs ys. refl; long = λ xs. omega arith; step = one-step bytes }
+pub back-lawful : (bytes : List ℕ) → Lawful (backWay bytes)
+back-lawful bytes = record { join = λ xs ys. refl; step = one-step bytes }

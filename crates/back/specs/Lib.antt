@@ -1,1 +1,3 @@
-pub mod Ahead
+pub mod Table
+pub mod Marks
+pub mod Walking

@@ -1,9 +1,8 @@
 // The next row of a table, compared with a node's own.
 ghost use mathlib.Core.Path.{_≡_};
-ghost use Prim.Native.Nat.{_+_, _*_, _≤_, _<_};
+ghost use Prim.Native.Nat.{_+_, _%_, _≤_, _<_};
 ghost use lib.ListN.{length, getD};
-ghost use lib.Dec.{eqb};
-ghost use Rattle.back.specs.Ahead.{wordAt, Eight};
+ghost use Rattle.back.specs.Table.{wordAt, Eight, Same};
 
 // A byte of a table, as part of a row's number.
 fn part(rows: &[u8], i: usize) -> u64
@@ -14,7 +13,7 @@ fn part(rows: &[u8], i: usize) -> u64
 }
 
 // The 8 bytes from a place on as one number, low byte first.
-fn word_at(rows: &[u8], i: usize) -> u64
+pub(crate) fn word_at(rows: &[u8], i: usize) -> u64
     requires { ⌜ i + 8 ≤ length (now rows) ⌝ }
     ensures { λ r. ⌜ (r ≡ wordAt (now (rows .entry)) i) × Eight (now (rows .entry)) i ⌝ }
 {
@@ -28,10 +27,14 @@ fn word_at(rows: &[u8], i: usize) -> u64
         + part(rows, i + 7) * 72057594037927936
 }
 
-// Whether the row with a number is a node's, given as one number.
+// Whether the row at a place, if there is one, is a node's, given as one number.
 pub fn same_row(rows: &[u8], at: usize, row: u64) -> bool
-    requires { ⌜ at * 8 + 8 ≤ length (now rows) ⌝ }
-    ensures { λ r. ⌜ (r ≡ eqb (wordAt (now (rows .entry)) (at * 8)) row) × Eight (now (rows .entry)) (at * 8) ⌝ }
+    requires { ⌜ (length (now rows) % 8 ≡ 0) × (at % 8 ≡ 0) ⌝ }
+    ensures { λ r. ⌜ Same (now (rows .entry)) at row r ⌝ }
 {
-    word_at(rows, at * 8) == row
+    if at < rows.len() {
+        word_at(rows, at) == row
+    } else {
+        false
+    }
 }

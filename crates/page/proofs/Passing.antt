@@ -21,7 +21,6 @@ use Rattle.laws.proofs.Tables.{rows-long}
 use Rattle.unit.specs.declared.Answer.{Answer}
 use Rattle.unit.specs.declared.Answer.the-variants.{Accepted, Refused}
 use Rattle.unit.specs.Answers.{Meets, refused, deliver, finishEnd, answerOf}
-use Rattle.unit.specs.Luma.{kindOf}
 use Rattle.unit.specs.Writer.{testUnit}
 use Rattle.unit.specs.Exactly.{UnitTree}
 use Rattle.unit.proofs.Accepts.{answer-stops, answer-goes}
@@ -40,12 +39,10 @@ module _ (s : Settings) (a : ℕ) (h : unitRefusal s a ≡ 0) where
   pub tree-fits : (t : UnitTree s a) → Every (Fits a) (rowsOf t)
   tree-fits t =
       let r = root-of s a h in
-      let b = r .valid .leastCb in
-      let q = r .valid .leQt in
       let sh = r .good .shape in
       let x = side-power (sh .side Vertical) in
       let y = side-power (sh .side Horizontal) in
-      let deep = rows-deep (kindOf s) b (omega arith) sh (omega arith) t in
+      let deep = rows-deep (r .valid) sh (omega arith) t in
       every-map (λ row p. fits address-small (p .0) (p .1)) (every-both (root-small r t) deep)
 
   -- each line has 33 bytes

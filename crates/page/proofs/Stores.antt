@@ -3,18 +3,24 @@ use Prim.Native.Nat.{ℕ, zero, suc, _+_, _*_, _^_, _≤_, _<_}
 use mathlib.Core.Path.{_≡_, refl, sym, ap, _∙_}
 use mathlib.Core.List.{List, [], _∷_, _++_, append-assoc, append-nil}
 use native.Mathlib.Omega.{arith}
-use native.Mathlib.Nat.{zero-add}
+use native.Mathlib.Nat.{zero-add, add-zero, add-suc, suc-add}
 use native.Mathlib.Numerals.{add-one}
 use lib.ListN.{length, length-append, drop, set, length-drop}
 use lib.Seq.{sets, sets-eq, take-append-seam, drop-append-add, drop-drop}
 use Rattle.tree.specs.Rows.{Row, rowAt, rowsAt}
 use Rattle.laws.specs.Every.{Every, every-more}
-use Rattle.nodes.proofs.Stores.{sets-append}
 use Rattle.page.specs.Lines.{column, rowColumns, line, lines}
 use Rattle.page.specs.Text.{sixBytes}
 use Rattle.page.proofs.Fitting.{Held}
 
 -- ---- the columns of a line
+
+-- stores of one list after another
+sets-append : (b xs ys : List ℕ) (i : ℕ) → sets b i (xs ++ ys) ≡ sets (sets b i xs) (i + length xs) ys
+sets-append b [] ys i = ap (λ (j : ℕ). sets b j ys) (sym (add-zero i))
+sets-append b (x ∷ xs) ys i =
+    sets-append (set b i x) xs ys (suc i)
+    ∙ ap (λ (j : ℕ). sets (sets (set b i x) (suc i) xs) j ys) (suc-add i (length xs) ∙ sym (add-suc i (length xs)))
 
 -- stores of one list, then of another where the first ends
 after : (b xs ys : List ℕ) (i j : ℕ) {c d : List ℕ} → j ≡ i + length xs → c ≡ sets b i xs → d ≡ sets c j ys → d ≡ sets b i (xs ++ ys)

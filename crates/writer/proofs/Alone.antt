@@ -1,17 +1,18 @@
 -- A root that is a leaf: its table is its own row alone, and its flags are those of a leaf.
-use Prim.Native.Nat.{ℕ}
+use Prim.Native.Nat.{ℕ, _<_}
 use mathlib.Core.Path.{_≡_, sym, ap, _∙_}
-use mathlib.Core.Bool.{true, false, not}
+use mathlib.Core.Bool.{Bool, true, false, not}
 use mathlib.Core.List.{List, [], _∷_, append-nil}
+use native.Mathlib.Omega.{arith}
 use lib.Dec.{eqb}
 use lib.ListN.{length}
-use borrow.Author.Tests.{eqb-true}
+use borrow.Author.Tests.{lt-ltb, eqb-true}
 use Rattle.sides.proofs.Bools.{and-left, and-right}
 use Rattle.tree.specs.declared.Limits.{Limits}
 use Rattle.tree.specs.declared.Node.{Node}
 use Rattle.tree.specs.declared.Decision.the-variants.{Leaf}
 use Rattle.tree.specs.Kind.{luma}
-use Rattle.tree.specs.Splits.{inside, rightsOf, rightsIn, openSplits}
+use Rattle.tree.specs.Splits.{inside, Rights, rightsOf, rightsIn, has, openSplits}
 use Rattle.tree.specs.Flags.{flagsFor}
 use Rattle.tree.specs.Children.{shares, childrenFrom, children}
 use Rattle.tree.specs.Rows.{rowOf, ownRows, rowAt, rowsAt}
@@ -27,24 +28,25 @@ use Rattle.unit.specs.declared.Answer.the-variants.{Accepted}
 use Rattle.unit.specs.Answers.{Meets, finishEnd, answerOf}
 use Rattle.unit.specs.Writer.{flagsFrom, testRows, writeRows}
 use Rattle.unit.proofs.TreeTurning.{tree-turned}
-use Rattle.nodes.specs.Rooted.{Rooted}
-use Rattle.nodes.proofs.RowFields.{fits-of}
-use Rattle.nodes.proofs.Roots.{sum}
-use Rattle.back.specs.Ahead.{wordAt, Eight}
+use Rattle.walks.specs.Rooted.{Rooted}
+use Rattle.walks.proofs.RowFields.{fits}
+use Rattle.back.specs.Table.{wordAt, Same}
 use Rattle.writer.specs.Delivery.{leafAlone, leafFlags, deliverLeaf}
 use Rattle.back.proofs.RowWords.{word-tests}
 
-module _ {l : Limits} {root : Node} (r : Rooted l root) where
+module _ {l : Limits} {root : Node} (r : Rooted (luma l) root) where
   -- the test of the code, by the root's number
-  pub own-row : {bytes : List ℕ} → Eight bytes 0 → {row : ℕ} → row ≡ rowWord (rowOf root) → eqb (wordAt bytes 0) row ≡ sameRow (rowAt bytes 0) (rowOf root)
-  own-row {bytes} b e = ap (eqb (wordAt bytes 0)) e ∙ word-tests b (fits-of (r .good .shape) (r .right) (r .bottom) (sum r))
+  pub own-row : {bytes : List ℕ} → length bytes ≡ 8 → {row : ℕ} {same : Bool} → Same bytes 0 row same → row ≡ rowWord (rowOf root) → same ≡ sameRow (rowAt bytes 0) (rowOf root)
+  own-row {bytes} len s e =
+      let some : 0 < length bytes = omega arith in
+      s .tests ∙ rw (lt-ltb _ _ some, e) (word-tests (s .eight some) (fits (r .placed)))
 
   module _ (within : inside l root ≡ true) where
     -- the test of the tree that is a leaf
     leaf-tested : flagsFrom (luma l) root (rowOf root ∷ []) ≡ gives (flagsFor (rightsOf (luma l) root) Leaf) []
     unfolding rightsOf children childrenFrom shares ownRows rowsOf flagsOf
     leaf-tested =
-        tree-turned (turning-is-tree (luma l) (r .valid) (r .good) (r .here) (sum r)) (node Leaf (r .here) within none none)
+        tree-turned (turning-is-tree (r .proper) (r .placed .good) (r .here) (r .placed .sum)) (node Leaf (r .here) within none none)
         ∙ ap (λ flags. gives flags []) (append-nil (flagsFor (rightsOf (luma l) root) Leaf))
 
     -- its flags by the number of its open splits
@@ -52,7 +54,7 @@ module _ {l : Limits} {root : Node} (r : Rooted l root) where
     unfolding rightsOf
     leaf-rights = ap (λ out. rightsIn out (openSplits (rightsOf (luma l) root))) (ap not (sym within)) ∙ rights-back (rightsOf (luma l) root)
 
-  module _ (bytes : List ℕ) (h : leafAlone l root bytes ≡ true) {splits : ℕ} (e : splits ≡ openSplits (rightsOf (luma l) root)) where
+  module _ (bytes : List ℕ) (h : leafAlone l root bytes ≡ true) (splits : ℕ) (e : leafFlags splits ≡ leafFlags (openSplits (rightsOf (luma l) root))) where
     alone-is : testRows (luma l) root bytes ≡ gives (leafFlags splits) []
     unfolding testRows rowsAt
     alone-is =
@@ -71,3 +73,10 @@ module _ {l : Limits} {root : Node} (r : Rooted l root) where
         → Meets (deliverLeaf splits buffer) said left → Meets (writeRows (luma l) root bytes buffer) said left
     unfolding writeRows finishEnd
     leaf-delivered buffer m = rw alone-is m
+
+-- above MinQt the flags of a leaf are those of a root with QT alone
+pub quad-leaf : {l : Limits} {root : Node} → Rooted (luma l) root → l .minqt < root .w → leafFlags 1 ≡ leafFlags (openSplits (rightsOf (luma l) root))
+unfolding flagsFor rightsOf
+quad-leaf {l} {root} r h =
+    let q : has (openSplits (rightsOf (luma l) root)) 1 ≡ true = ap (λ (x : Rights). x .quad) (rights-back (rightsOf (luma l) root)) ∙ rw (r .uncut, lt-ltb _ _ h) in
+    rw q

@@ -1,5 +1,5 @@
 -- The ends of a way back, over plain values: each way in which the code answers is what the delivery says.
-use Prim.Native.Nat.{ℕ, _/_, _≤_, _<_}
+use Prim.Native.Nat.{ℕ, _≤_, _<_}
 use mathlib.Core.Path.{_≡_, refl, sym, ap, _∙_}
 use mathlib.Core.Bool.{Bool, true, false, not, cond}
 use mathlib.Core.List.{List, [], _∷_}
@@ -18,8 +18,8 @@ use Rattle.unit.specs.Answers.{Meets, deliver}
 use Rattle.nodes.specs.declared.state.Child.{Child}
 use Rattle.nodes.specs.declared.state.Child.the-variants as child
 use Rattle.nodes.proofs.state.Child as C
-use Rattle.nodes.specs.State.{placeOf, countOf, numberOf, refusedAt}
-use Rattle.nodes.proofs.Apart.{was-walked}
+use Rattle.nodes.specs.State.{placeOf, countOf, refusalNumber, refusalPlace}
+use Rattle.walks.proofs.Apart.{was-walked}
 use Rattle.writer.specs.Delivery.{leafFlags, deliverLeaf, walkEnd, deliverFlags}
 
 -- ---- a root that is a leaf
@@ -55,7 +55,7 @@ refused-only true answer e = absurd (omega arith)
 refused-only false answer e = refl
 
 module _ (answer : ℕ) (w : Child) (apart : w ≡ cond (ltb answer 9223372036854775808) (child.Walked answer) (child.Refused answer)) (rows : List ℕ) where
-  pub end-stop : denote.Enum.Declared.tagOf C.the-type w ≡ 1 → (number place : ℕ) → number ≡ numberOf answer → place ≡ refusedAt answer
+  pub end-stop : denote.Enum.Declared.tagOf C.the-type w ≡ 1 → (number place : ℕ) → number ≡ refusalNumber answer → place ≡ refusalPlace answer
       → Refused number place ≡ walkEnd answer rows
   unfolding walkEnd
   end-stop tag number place e f =
@@ -72,11 +72,11 @@ module _ (answer : ℕ) (w : Child) (apart : w ≡ cond (ltb answer 922337203685
     at-place : placeOf answer ≡ at
     at-place = sym (at-is ∙ ap (λ c. placeOf c) (read-is .0))
 
-    pub end-left : at < length rows / 8 → Refused 16 0 ≡ walkEnd answer rows
+    pub end-left : at < length rows → Refused 16 0 ≡ walkEnd answer rows
     unfolding walkEnd
     end-left h = rw (on, at-place, lt-ltb _ _ h)
 
-    pub end-all : length rows / 8 ≤ at → (n : ℕ) → n ≡ countOf end → Accepted n ≡ walkEnd answer rows
+    pub end-all : length rows ≤ at → (n : ℕ) → n ≡ countOf end → Accepted n ≡ walkEnd answer rows
     unfolding walkEnd
     end-all all n e = rw (on, at-place, le-ltb _ _ all, e, read-is .0)
 
@@ -87,6 +87,6 @@ module _ (n : ℕ) (scratch b : List ℕ) where
   unfolding deliverFlags
   all-short h = rw (lt-ltb _ _ h) (record { answers = refl; leaves = refl })
 
-  pub all-done : n ≤ 8192 → length scratch ≡ 8192 → n ≤ length b → {z : List ℕ} → z ≡ copied n scratch b → Meets (deliverFlags n scratch b) (Accepted n) z
+  pub all-done : n ≤ 4096 → length scratch ≡ 4096 → n ≤ length b → {z : List ℕ} → z ≡ copied n scratch b → Meets (deliverFlags n scratch b) (Accepted n) z
   unfolding deliverFlags
   all-done few len h e = rw (le-ltb _ _ h) (record { answers = refl; leaves = e ∙ copied-all n scratch b h (omega arith) })

@@ -36,7 +36,7 @@ module _ (s : Settings) (a : ℕ) {r : Located} (e : r ≡ located s a) (bytes :
   -- a unit that is there
   module _ {q : Square} (h : r ≡ At q) {l : Limits} {root : Node} (i : l ≡ limitsOf s) (j : root ≡ rootOf q) where
     found-test : testRows (luma l) root bytes ≡ testUnit s a bytes
-    found-test = rw (i, same-root s a e h i j) (sym (unit-tested s a (found s a e h .0) bytes))
+    found-test = rw (i, same-root s a e h j) (sym (unit-tested s a (found s a e h .0) bytes))
 
     pub test-found : {said : Answer} → said ≡ answerOf (testRows (luma l) root bytes) → said ≡ answerOf (testUnit s a bytes)
     test-found m = m ∙ ap (λ run. answerOf run) found-test

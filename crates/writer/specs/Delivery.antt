@@ -1,10 +1,9 @@
 -- The end of a way back as the code takes it: from a root that is a leaf, and from the number that a walk answers.
-use Prim.Native.Nat.{ℕ, _/_, _≤_}
+use Prim.Native.Nat.{ℕ, _≤_}
 use mathlib.Core.Path.{_≡_}
 use mathlib.Core.Bool.{Bool, false, _&&_, cond}
 use mathlib.Core.List.{List, _++_}
 use lib.ListN.{length, take, drop}
-use lib.Seq.{sets}
 use lib.Dec.{ltb, eqb}
 use Rattle.tree.specs.declared.Limits.{Limits}
 use Rattle.tree.specs.declared.Node.{Node}
@@ -17,7 +16,7 @@ use Rattle.tree.specs.Back.{sameRow}
 use Rattle.unit.specs.declared.Answer.{Answer}
 use Rattle.unit.specs.declared.Answer.the-variants.{Accepted, Refused}
 use Rattle.unit.specs.Answers.{Outcome, refused, deliver, answerOf}
-use Rattle.nodes.specs.State.{placeOf, countOf, numberOf, refusedAt}
+use Rattle.nodes.specs.State.{placeOf, countOf, refusalNumber, refusalPlace}
 
 -- the bytes are one row, the root's own, and the root lies inside the picture: it is a leaf
 abbrev pub leafAlone : Limits → Node → List ℕ → Bool
@@ -35,16 +34,16 @@ deliverLeaf splits buffer = deliver 17 (length (leafFlags splits)) (leafFlags sp
 unfoldable pub walkEnd : ℕ → List ℕ → Answer
 walkEnd answer rows =
     cond (ltb answer 9223372036854775808)
-    (cond (ltb (placeOf answer) (length rows / 8)) (Refused 16 0) (Accepted (countOf answer)))
-    (Refused (numberOf answer) (refusedAt answer))
+    (cond (ltb (placeOf answer) (length rows)) (Refused 16 0) (Accepted (countOf answer)))
+    (Refused (refusalNumber answer) (refusalPlace answer))
 
 -- the first flags of a scratch table into a buffer; 17 where it is too short
 unfoldable pub deliverFlags : ℕ → List ℕ → List ℕ → Outcome
 deliverFlags n scratch buffer =
     cond (ltb (length buffer) n) (refused 17 n buffer) (record { answer = Accepted n; buffer = take n scratch ++ drop n buffer })
 
--- a test's answer, its flags at the front of a scratch table, and that they are 8,192 at most
-pub record Kept (run : Run ℕ (List Row)) (said : Answer) (before after : List ℕ) : Type 0 where
+-- a test's answer, its flags at the front of a scratch table, and that they are 4,096 at most
+pub record Kept (run : Run ℕ (List Row)) (said : Answer) (after : List ℕ) : Type 0 where
   pub answers : said ≡ answerOf run
-  pub flags : after ≡ sets before 0 (run .given)
-  pub few : length (run .given) ≤ 8192
+  pub flags : take (length (run .given)) after ≡ run .given
+  pub few : length (run .given) ≤ 4096

@@ -1,6 +1,6 @@
 // The delivery of a way back: 17, or its flags in the lent buffer.
-use back::Scratch;
-use back::some_open;
+use flags::Scratch;
+use flags::some_open;
 use unit::Answer;
 ghost use Prim.Native.Nat.{_≤_};
 ghost use Rattle.unit.specs.Answers.{Meets};
@@ -22,7 +22,7 @@ pub(crate) fn leaf_flags(splits: u32, flags: &mut [u8]) -> Answer
 
 // The first n flags of a scratch table into the lent buffer.
 pub(crate) fn all_flags(n: usize, scratch: &Scratch, flags: &mut [u8]) -> Answer
-    requires { ⌜ n ≤ 8192 ⌝ }
+    requires { ⌜ n ≤ 4096 ⌝ }
     ensures { λ r. ⌜ Meets (deliverFlags n (now (scratch .entry)) (now (flags .entry))) r (now (flags .exit)) ⌝ }
 {
     if flags.len() < n {

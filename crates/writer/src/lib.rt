@@ -15,14 +15,14 @@ ghost use lib.ListN.{length};
 ghost use Rattle.tree.specs.Kind.{luma};
 ghost use Rattle.unit.specs.Answers.{Meets};
 ghost use Rattle.unit.specs.Writer.{writeRows, writeFlags};
-ghost use Rattle.nodes.specs.Rooted.{Rooted};
+ghost use Rattle.walks.specs.Rooted.{Rooted};
 
 // The way back of whole rows: the test by a walk, and the delivery of its flags.
 fn write_all(l: Limits, root: Node, rows: &[u8], flags: &mut [u8]) -> Answer
-    requires { ⌜ Rooted l root × (length (now rows) % 8 ≡ 0) ⌝ }
+    requires { ⌜ Rooted (luma l) root × (length (now rows) % 8 ≡ 0) ⌝ }
     ensures { λ r. ⌜ Meets (writeRows (luma l) root (now (rows .entry)) (now (flags .entry))) r (now (flags .exit)) ⌝ }
 {
-    let mut scratch = [0u8; 8192];
+    let mut scratch = [0u8; 4096];
     match test::test_all(l, root, rows, &mut scratch) {
         Answer::Refused(number, place) => Answer::Refused(number, place),
         Answer::Accepted(n) => deliver::all_flags(n, &scratch, flags),
@@ -31,14 +31,14 @@ fn write_all(l: Limits, root: Node, rows: &[u8], flags: &mut [u8]) -> Answer
 
 // The way back of a table of whole rows, or refusal 15; a root that is a leaf needs no walk.
 fn write_rows(l: Limits, root: Node, rows: &[u8], flags: &mut [u8]) -> Answer
-    requires { ⌜ Rooted l root ⌝ }
+    requires { ⌜ Rooted (luma l) root ⌝ }
     ensures { λ r. ⌜ Meets (writeRows (luma l) root (now (rows .entry)) (now (flags .entry))) r (now (flags .exit)) ⌝ }
 {
     if rows.len() % 8 != 0 {
         return Answer::Refused(15, rows.len() / 8);
     }
     if test::is_leaf(l, root, rows) {
-        deliver::leaf_flags(splits::open_splits(l, root), flags)
+        deliver::leaf_flags(test::leaf_splits(l, root), flags)
     } else {
         write_all(l, root, rows, flags)
     }

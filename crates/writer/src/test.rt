@@ -1,11 +1,10 @@
 // The way back's test: whether some flags give the rows of a unit, with document 01's refusals 1 to 10, 15 and 16.
-use back::Scratch;
 use back::same_row;
-use back::some_open;
+use flags::Scratch;
+use flags::some_open;
 use nodes::Child;
 use settings::Located;
 use settings::Settings;
-use tree::Decision;
 use tree::Limits;
 use tree::Node;
 use unit::Answer;
@@ -13,14 +12,15 @@ ghost use mathlib.Core.Path.{_≡_};
 ghost use Prim.Native.Nat.{_%_};
 ghost use lib.ListN.{length};
 ghost use Rattle.tree.specs.Kind.{luma};
+ghost use Rattle.tree.specs.Splits.{rightsOf, openSplits};
 ghost use Rattle.unit.specs.Answers.{answerOf};
 ghost use Rattle.unit.specs.Writer.{testRows, testUnit};
-ghost use Rattle.nodes.specs.Rooted.{Rooted};
+ghost use Rattle.walks.specs.Rooted.{Rooted};
 ghost use Rattle.writer.specs.Delivery.{leafAlone, leafFlags, walkEnd, Kept};
 
 // Whether the only row is the root's own, and the root lies inside the picture: then it is a leaf.
 pub(crate) fn is_leaf(l: Limits, root: Node, rows: &[u8]) -> bool
-    requires { ⌜ Rooted l root ⌝ }
+    requires { ⌜ Rooted (luma l) root ⌝ }
     ensures { λ r. ⌜ r ≡ leafAlone l root (now (rows .entry)) ⌝ }
 {
     if rows.len() != 8 {
@@ -30,6 +30,18 @@ pub(crate) fn is_leaf(l: Limits, root: Node, rows: &[u8]) -> bool
         !splits::out(l, root)
     } else {
         false
+    }
+}
+
+// The open splits of a root, as far as the flags of a leaf depend on them: where QT is open, no other one plays a part.
+pub(crate) fn leaf_splits(l: Limits, root: Node) -> u32
+    requires { ⌜ Rooted (luma l) root ⌝ }
+    ensures { λ r. ⌜ leafFlags r ≡ leafFlags (openSplits (rightsOf (luma l) root)) ⌝ }
+{
+    if l.minqt < root.w {
+        1
+    } else {
+        splits::open_splits(l, root)
     }
 }
 
@@ -44,10 +56,10 @@ fn leaf_count(splits: u32) -> usize
 fn walk_end(answer: u64, rows: &[u8]) -> Answer
     ensures { λ r. ⌜ r ≡ walkEnd answer (now (rows .entry)) ⌝ }
 {
-    let Child::Walked(end) = nodes::taken_apart(answer) else {
+    let Child::Walked(end) = nodes::child_answer(answer) else {
         return Answer::Refused(nodes::refusal_number(answer), nodes::refusal_place(answer));
     };
-    if nodes::place(end) < rows.len() / 8 {
+    if nodes::place(end) < rows.len() {
         return Answer::Refused(16, 0);
     }
     Answer::Accepted(nodes::count(end))
@@ -55,29 +67,28 @@ fn walk_end(answer: u64, rows: &[u8]) -> Answer
 
 // The test of whole rows by a walk: 16, or the number of their flags, which the scratch table then begins with.
 pub(crate) fn test_all(l: Limits, root: Node, rows: &[u8], scratch: &mut Scratch) -> Answer
-    requires { ⌜ Rooted l root × (length (now rows) % 8 ≡ 0) ⌝ }
-    ensures { λ r. ⌜ Kept (testRows (luma l) root (now (rows .entry))) r (now (scratch .entry)) (now (scratch .exit)) ⌝ }
+    requires { ⌜ Rooted (luma l) root × (length (now rows) % 8 ≡ 0) × (length (now scratch) ≡ 4096) ⌝ }
+    ensures { λ r. ⌜ Kept (testRows (luma l) root (now (rows .entry))) r (now (scratch .exit)) ⌝ }
 {
-    let u = nodes::tables(l);
+    let u = nodes::luma_table(l);
+    let splits = splits::open_splits(l, root);
     let row = blocks::row_word(root);
-    // A root is above all cuts, as a child of a quad split is, and may reach past the picture.
-    let kept = nodes::kept_under(&u, row, 0, true, Decision::Quad, 0);
-    let answer = back::node_back(&u, rows, scratch, 0, row, kept);
+    let answer = back::tree_back(&u, rows, scratch, row, splits::out(l, root), splits);
     walk_end(answer, rows)
 }
 
 // The test of a table, refusals 15 and 16; a root that is a leaf needs no walk.
 fn test_rows(l: Limits, root: Node, rows: &[u8]) -> Answer
-    requires { ⌜ Rooted l root ⌝ }
+    requires { ⌜ Rooted (luma l) root ⌝ }
     ensures { λ r. ⌜ r ≡ answerOf (testRows (luma l) root (now (rows .entry))) ⌝ }
 {
     if rows.len() % 8 != 0 {
         return Answer::Refused(15, rows.len() / 8);
     }
     if is_leaf(l, root, rows) {
-        return Answer::Accepted(leaf_count(splits::open_splits(l, root)));
+        return Answer::Accepted(leaf_count(leaf_splits(l, root)));
     }
-    let mut scratch = [0u8; 8192];
+    let mut scratch = [0u8; 4096];
     test_all(l, root, rows, &mut scratch)
 }
 

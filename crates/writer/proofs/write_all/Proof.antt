@@ -1,4 +1,3 @@
-use mathlib.Core.Path.{refl}
 use denote.Ref.{now}
 use Rattle.writer.proofs.Whole.{kept-refused, kept-few, kept-written}
 use borrow.Author.Needs.{needs}
@@ -37,7 +36,7 @@ returns-2 c =
     let n = al .before .before .before .before in
     let ta = n .before .before in
     let st = ta .before .before .before .before in
-    kept-written (st .args .l) (st .args .root) (now (st .args .rows)) (ta .test-all .ensures) (now (st .args .flags)) (n .n .given .1) refl (al .all-flags .ensures)
+    kept-written (st .args .l) (st .args .root) (now (st .args .rows)) (ta .test-all .ensures) (now (st .args .flags)) (n .n .given .1) (al .all-flags .ensures)
 
 pub write-all-spec : {M : Type 1} → statement M
 write-all-spec =

@@ -1,6 +1,6 @@
 use denote.Ref.{now}
 use borrow.Author.Needs.{needs}
-use Rattle.unit.proofs.Located.{unit-rooted}
+use Rattle.walks.proofs.UnitRoots.{unit-rooted}
 use Rattle.writer.proofs.Units.{unit-refused, unit-written}
 use Rattle.writer.proofs.write_flags.Statement.{statement}
 use Rattle.writer.proofs.write_flags.Tie as tie

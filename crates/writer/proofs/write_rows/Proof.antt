@@ -14,8 +14,8 @@ returns c =
 is-leaf-requires : tie.Need-is-leaf-requires
 is-leaf-requires c κs = search needs
 
-open-splits-requires : tie.Need-open-splits-requires
-open-splits-requires c κs = search needs
+leaf-splits-requires : tie.Need-leaf-splits-requires
+leaf-splits-requires c κs = search needs
 
 leaf-flags-requires : tie.Need-leaf-flags-requires
 leaf-flags-requires c κs = search needs
@@ -33,7 +33,7 @@ returns-2 c =
     let th = op .before in
     let il = th .before in
     let st = il .before .before .before .before in
-    leaf-delivered (st .pre) (now (st .args .rows)) (sym (il .is-leaf .ensures) ∙ th .if2 .taken) (op .open-splits .ensures) (now (st .args .flags)) (lf .leaf-flags .ensures)
+    leaf-delivered (st .pre) (now (st .args .rows)) (sym (il .is-leaf .ensures) ∙ th .if2 .taken) (op .leaf-splits .result) (op .leaf-splits .ensures) (now (st .args .flags)) (lf .leaf-flags .ensures)
 
 same-length-2 : tie.Need-same-length-2
 same-length-2 c = search needs
@@ -47,7 +47,7 @@ write-rows-spec =
     (tie.spec
     returns
     is-leaf-requires
-    open-splits-requires
+    leaf-splits-requires
     leaf-flags-requires
     write-all-requires
     same-length

@@ -1,107 +1,66 @@
+use Prim.Native.Nat.{_*_, _/_, _%_}
+use mathlib.Core.Path.{_≡_, sym, ap, _∙_}
+use mathlib.Core.Bool.{Bool, cond}
+use native.Mathlib.Omega.{arith}
+use native.Mathlib.Nat.{mul-le-mul}
+use lib.Dec.{eqb}
+use denote.Ref.{now}
+use borrow.Author.Tests.{eq-eqb, ne-eqb}
+use Rattle.tree.specs.declared.Decision.the-variants.{Ternary}
+use Rattle.tree.specs.declared.Direction.the-variants.{Horizontal, Vertical}
 use Rattle.nodes.specs.Words.{nodeIn}
-use Rattle.back.proofs.Decisions.{cut-is}
+use Rattle.back.specs.Marks.{Cut}
+use Rattle.back.proofs.Found.{Shows, area-is, left-is, top-is, shows, cut-flat, cut-steep, cut-in-three}
 use borrow.Author.Needs.{needs}
 use Rattle.back.proofs.ahead.cut_ahead.Statement.{statement}
 use Rattle.back.proofs.ahead.cut_ahead.Tie as tie
 
-left-requires : tie.Need-left-requires
-left-requires c κs = search needs
+mul-area : tie.Need-mul-area
+mul-area c = let p = mul-le-mul (c .before .width .ensures .1) (c .height .ensures .1) in omega arith
 
-top-requires : tie.Need-top-requires
-top-requires c κs = search needs
+-- the row after half of its cells, and after a quarter
+half : (s : tie.After-starts) → let a = s .before .before .before .before .before .args in Shows (now (a .marks)) (a .row) (a .at) (nodeIn (a .row) .w * nodeIn (a .row) .h / 32) (s .starts .result)
+half s =
+    let w = s .before in
+    let h = w .before in
+    let b = h .before .before in
+    let area = area-is (b .before .args .row) (h .before .width .ensures .0) (h .height .ensures .0) in
+    rw (← area) (shows (b .before2 .ensures) area (omega arith) (w .wrapping-add-u32 .ensures) (s .starts .ensures))
 
-width-requires : tie.Need-width-requires
-width-requires c κs = search needs
-
-height-requires : tie.Need-height-requires
-height-requires c κs = search needs
-
-mul-reach : tie.Need-mul-reach
-mul-reach c = search needs
-
-add-reach : tie.Need-add-reach
-add-reach c = search needs
-
-add-reach-2 : tie.Need-add-reach-2
-add-reach-2 c = search needs
-
-reach-requires : tie.Need-reach-requires
-reach-requires c κs = search needs
+quarter : (q : tie.After-starts2) → let a = q .before .before .before .before .before .before .before .before .before .before .before .args in Shows (now (a .marks)) (a .row) (a .at) (nodeIn (a .row) .w * nodeIn (a .row) .h / 64) (q .starts2 .result)
+quarter q =
+    let h = q .before .before .before .before .before .before .before .before in
+    let b = h .before .before in
+    let area = area-is (b .before .args .row) (h .before .width .ensures .0) (h .height .ensures .0) in
+    rw (← area) (shows (b .before2 .ensures) area (omega arith) (q .before .wrapping-add-u322 .ensures) (q .starts2 .ensures))
 
 returns : tie.Need-returns
-unfolding nodeIn
-returns c =
-    let re = c .before in
-    let he = re .before in
-    rw (cut-is, ← he .before .before .before .left .ensures .0, ← he .before .before .top .ensures .0, ← he .before .width .ensures .0, ← he .height .ensures .0, ← re .reach .ensures, c .if1 .taken)
-
-mul-reach-2 : tie.Need-mul-reach-2
-mul-reach-2 c = search needs
-
-add-reach-3 : tie.Need-add-reach-3
-add-reach-3 c = search needs
-
-add-reach-4 : tie.Need-add-reach-4
-add-reach-4 c = search needs
-
-reach-requires-2 : tie.Need-reach-requires-2
-reach-requires-2 c κs = search needs
+returns c = let l = c .before in cut-flat (half (l .before)) (c .if1 .taken ∙ left-is _ (l .left .ensures .0))
 
 returns-2 : tie.Need-returns-2
-unfolding nodeIn
 returns-2 c =
-    let se = c .before in
-    let re = se .before .before in
-    let he = re .before in
-    rw (cut-is, ← he .before .before .before .left .ensures .0, ← he .before .before .top .ensures .0, ← he .before .width .ensures .0, ← he .height .ensures .0, ← re .reach .ensures, se .before .if1 .left, ← se .reach2 .ensures, c .if2 .taken)
+    let t = c .before in
+    let l = t .before .before in
+    cut-steep (half (l .before)) (λ i. t .before .if1 .left (i ∙ sym (left-is _ (l .left .ensures .0)))) (c .if2 .taken ∙ top-is _ (t .top .ensures .0))
 
-add-reach-5 : tie.Need-add-reach-5
-add-reach-5 c = search needs
-
-add-reach-6 : tie.Need-add-reach-6
-add-reach-6 c = search needs
-
-reach-requires-3 : tie.Need-reach-requires-3
-reach-requires-3 c κs = search needs
+-- in three parts
+third : (m : tie.After-left2) {b : Bool} → eqb (m .before .starts2 .result % 65536) (m .left2 .result) ≡ b → let a = m .before .before .before .before .before .before .before .before .before .before .before .before .args in Cut (now (a .marks)) (a .row) (a .at) (cond b (Ternary Horizontal) (Ternary Vertical))
+third m h =
+    let q = m .before in
+    let f = q .before .before in
+    let t = f .before in
+    let l = t .before .before in
+    cut-in-three (half (l .before)) (λ i. t .before .if1 .left (i ∙ sym (left-is _ (l .left .ensures .0)))) (λ i. f .if2 .left (i ∙ sym (top-is _ (t .top .ensures .0)))) (quarter q)
+    (ap (eqb (q .starts2 .result % 65536)) (sym (left-is _ (m .left2 .ensures .0))) ∙ h)
 
 returns-3 : tie.Need-returns-3
-unfolding nodeIn
-returns-3 c =
-    let th = c .before in
-    let se = th .before .before in
-    let re = se .before .before in
-    let he = re .before in
-    rw (cut-is, ← he .before .before .before .left .ensures .0, ← he .before .before .top .ensures .0, ← he .before .width .ensures .0, ← he .height .ensures .0, ← re .reach .ensures, se .before .if1 .left, ← se .reach2 .ensures, th .before .if2 .left, ← th .reach3 .ensures, c .if3 .taken)
+returns-3 c = third (c .before) (eq-eqb _ _ (c .if3 .taken))
 
 returns-4 : tie.Need-returns-4
-unfolding nodeIn
-returns-4 c =
-    let th = c .before in
-    let se = th .before .before in
-    let re = se .before .before in
-    let he = re .before in
-    rw (cut-is, ← he .before .before .before .left .ensures .0, ← he .before .before .top .ensures .0, ← he .before .width .ensures .0, ← he .height .ensures .0, ← re .reach .ensures, se .before .if1 .left, ← se .reach2 .ensures, th .before .if2 .left, ← th .reach3 .ensures, c .if3 .left)
+returns-4 c = third (c .before) (ne-eqb _ _ (c .if3 .left))
 
 pub cut-ahead-spec : {M : Type 1} → statement M
 cut-ahead-spec =
     tie.close
-    (tie.spec
-    left-requires
-    top-requires
-    width-requires
-    height-requires
-    mul-reach
-    add-reach
-    add-reach-2
-    reach-requires
-    returns
-    mul-reach-2
-    add-reach-3
-    add-reach-4
-    reach-requires-2
-    returns-2
-    add-reach-5
-    add-reach-6
-    reach-requires-3
-    returns-3
-    returns-4)
+    (tie.spec (λ c κs. search needs) (λ c κs. search needs) (λ c κs. search needs) mul-area (λ c κs. search needs) (λ c κs. search needs) (λ c κs. search needs) returns
+    (λ c κs. search needs) returns-2 (λ c κs. search needs) (λ c κs. search needs) (λ c κs. search needs) returns-3 returns-4)

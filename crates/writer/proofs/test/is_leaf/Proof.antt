@@ -22,7 +22,7 @@ returns-2 c =
     let sa = c .before .before in
     let ro = sa .before in
     let le = ro .before in
-    let own = sym (own-row (le .before .before .pre) (sa .same-row .ensures .1) (ro .row-word .ensures)) ∙ sym (sa .same-row .ensures .0) ∙ c .before .if2 .taken in
+    let own = sym (own-row (le .before .before .pre) (le .if1 .left) (sa .same-row .ensures) (ro .row-word .ensures)) ∙ c .before .if2 .taken in
     rw (eq-eqb _ _ (le .if1 .left), own, c .out .ensures)
 
 returns-3 : tie.Need-returns-3
@@ -30,7 +30,7 @@ returns-3 c =
     let sa = c .before in
     let ro = sa .before in
     let le = ro .before in
-    let other = sym (own-row (le .before .before .pre) (sa .same-row .ensures .1) (ro .row-word .ensures)) ∙ sym (sa .same-row .ensures .0) ∙ c .if2 .left in
+    let other = sym (own-row (le .before .before .pre) (le .if1 .left) (sa .same-row .ensures) (ro .row-word .ensures)) ∙ c .if2 .left in
     rw (eq-eqb _ _ (le .if1 .left), other)
 
 pub is-leaf-spec : {M : Type 1} → statement M

@@ -12,8 +12,8 @@ returns c = let a = c .before .before .args in rows-cut (a .l) (a .root) (now (a
 is-leaf-requires : tie.Need-is-leaf-requires
 is-leaf-requires c κs = search needs
 
-open-splits-requires : tie.Need-open-splits-requires
-open-splits-requires c κs = search needs
+leaf-splits-requires : tie.Need-leaf-splits-requires
+leaf-splits-requires c κs = search needs
 
 leaf-count-requires : tie.Need-leaf-count-requires
 leaf-count-requires c κs = search needs
@@ -24,7 +24,7 @@ returns-2 c =
     let th = op .before in
     let il = th .before in
     let st = il .before .before .before in
-    leaf-counted (st .pre) (now (st .args .rows)) (sym (il .is-leaf .ensures) ∙ th .if2 .taken) (op .open-splits .ensures) (c .leaf-count .ensures)
+    leaf-counted (st .pre) (now (st .args .rows)) (sym (il .is-leaf .ensures) ∙ th .if2 .taken) (op .leaf-splits .result) (op .leaf-splits .ensures) (c .leaf-count .ensures)
 
 test-all-requires : tie.Need-test-all-requires
 test-all-requires c κs = search needs
@@ -38,7 +38,7 @@ test-rows-spec =
     (tie.spec
     returns
     is-leaf-requires
-    open-splits-requires
+    leaf-splits-requires
     leaf-count-requires
     returns-2
     test-all-requires

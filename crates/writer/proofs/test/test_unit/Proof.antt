@@ -1,5 +1,5 @@
 use denote.Ref.{now}
-use Rattle.unit.proofs.Located.{unit-rooted}
+use Rattle.walks.proofs.UnitRoots.{unit-rooted}
 use Rattle.writer.proofs.Units.{test-refused, test-found}
 use borrow.Author.Needs.{needs}
 use Rattle.writer.proofs.test.test_unit.Statement.{statement}

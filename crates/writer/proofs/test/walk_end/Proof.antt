@@ -4,8 +4,8 @@ use Rattle.writer.proofs.Ends.{end-stop, end-left, end-all}
 use Rattle.writer.proofs.test.walk_end.Statement.{statement}
 use Rattle.writer.proofs.test.walk_end.Tie as tie
 
-taken-apart-requires : tie.Need-taken-apart-requires
-taken-apart-requires c κs = search needs
+child-answer-requires : tie.Need-child-answer-requires
+child-answer-requires c κs = search needs
 
 enum-known-end : tie.Need-enum-known-end
 enum-known-end c = search needs
@@ -24,7 +24,7 @@ returns c =
     let at = c .before .before .before in
     let taken = at .before in
     let a = taken .before .before .args in
-    end-stop (a .answer) _ (taken .taken-apart .ensures) (now (a .rows)) (at .match .keys2) _ _ (c .before .refusal-number .ensures) (c .refusal-place .ensures)
+    end-stop (a .answer) _ (taken .child-answer .ensures) (now (a .rows)) (at .match .keys2) _ _ (c .before .refusal-number .ensures) (c .refusal-place .ensures)
 
 place-requires : tie.Need-place-requires
 place-requires c κs = search needs
@@ -35,7 +35,7 @@ returns-2 c =
     let end = place .before .before in
     let taken = end .before .before in
     let a = taken .before .before .args in
-    end-left (a .answer) _ (taken .taken-apart .ensures) (now (a .rows)) _ (end .end .given .1) _ (place .place .ensures) (c .if1 .taken)
+    end-left (a .answer) _ (taken .child-answer .ensures) (now (a .rows)) _ (end .end .given .1) _ (place .place .ensures .0) (c .if1 .taken)
 
 count-requires : tie.Need-count-requires
 count-requires c κs = search needs
@@ -47,13 +47,13 @@ returns-3 c =
     let end = place .before .before in
     let taken = end .before .before in
     let a = taken .before .before .args in
-    end-all (a .answer) _ (taken .taken-apart .ensures) (now (a .rows)) _ (end .end .given .1) _ (place .place .ensures) (test .if1 .left) _ (c .count .ensures .0)
+    end-all (a .answer) _ (taken .child-answer .ensures) (now (a .rows)) _ (end .end .given .1) _ (place .place .ensures .0) (test .if1 .left) _ (c .count .ensures .0)
 
 pub walk-end-spec : {M : Type 1} → statement M
 walk-end-spec =
     tie.close
     (tie.spec
-    taken-apart-requires
+    child-answer-requires
     enum-known-end
     enum-told
     refusal-number-requires

@@ -1,0 +1,39 @@
+-- The way back as a walk over nodes (crate walks). A call's contract needs none of this.
+use Prim.Native.Nat.{ℕ, _/_, _%_, _≤_}
+use mathlib.Core.Path.{_≡_}
+use mathlib.Core.Bool.{Bool, _&&_}
+use mathlib.Core.List.{List}
+use lib.Dec.{ltb, eqb}
+use lib.ListN.{length}
+use Rattle.tree.specs.Rows.{Row}
+use Rattle.tree.specs.Back.{backNode}
+use Rattle.nodes.specs.State.{placeOf}
+use Rattle.nodes.specs.Tables.{limitsIn}
+use Rattle.walks.specs.Walks.{Way}
+use Rattle.back.specs.Table.{rowsFrom, wordAt}
+use Rattle.back.specs.Marks.{cellsBefore, Marked}
+
+-- these rows are left at a place of a table, which is the first byte of a row
+pub record Left (bytes : List ℕ) (at : ℕ) (rows : List Row) : Type 0 where
+  pub from : rows ≡ rowsFrom bytes (at / 8)
+  pub first : at % 8 ≡ 0
+  pub within : at ≤ length bytes
+
+-- from the rows that are left to flags, a byte for each; a place stands for the cells of the rows before it
+abbrev pub backWay : List ℕ → Way ℕ (List Row)
+backWay bytes = record {
+  go = λ k n rows. backNode k n rows;
+  at = λ place rows. Left bytes place rows;
+  stored = λ flags. flags;
+  rows = λ place count. cellsBefore bytes (place / 8);
+  flags = λ place count. count;
+}
+
+-- what is read: whole rows and, where a cut may be open, their marks
+pub record Read (u bytes marks : List ℕ) : Type 0 where
+  pub whole : length bytes % 8 ≡ 0
+  pub marked : ¬ (limitsIn u .maxmtt ≡ 0) → Marked bytes marks
+
+-- the row at a walk's place is a node's own
+abbrev pub ownNext : List ℕ → ℕ → ℕ → Bool
+ownNext bytes c row = ltb (placeOf c) (length bytes) && eqb (wordAt bytes (placeOf c)) row
