@@ -1,5 +1,7 @@
 // What one pass over the rows of a table finds, so that the decision at a node needs no scan of the rows ahead.
 use crate::compare::word_at;
+use blocks::ROW_HEIGHT;
+use blocks::ROW_WIDTH;
 use nodes::Table;
 ghost use mathlib.Core.Path.{_≡_};
 ghost use Prim.Native.Nat.{_+_, _/_, _%_, _^_, _≤_, _<_};
@@ -16,7 +18,7 @@ pub type Marks = [u32; 2048];
 fn cells(row: u64) -> u64
     ensures { λ r. ⌜ (r ≡ 2 ^ ((row / 4294967296 + row / 1099511627776 + 12) % 16)) × (0 < r) × (r ≤ 32768) ⌝ }
 {
-    1u64 << ((row / 4294967296 + row / 1099511627776 + 12) % 16)
+    1u64 << ((row / ROW_WIDTH + row / ROW_HEIGHT + 12) % 16)
 }
 
 // Each row has a cell at least, so the number of rows that are passed is at most that of the cells.
@@ -29,7 +31,7 @@ pub(crate) fn mark(rows: &[u8], marks: &mut Marks)
     while (at < rows.len()) & (covered < 1024) {
         let row = word_at(rows, at);
         marks[at / 8] = covered as u32;
-        marks[1024 + covered as usize] = (row % 4294967296) as u32;
+        marks[1024 + covered as usize] = (row % ROW_WIDTH) as u32;
         covered = covered + cells(row);
         at += 8;
     }

@@ -8,6 +8,17 @@ ghost use Rattle.sides.specs.Side.{exponent};
 ghost use Rattle.tree.specs.Rows.{rowOf};
 ghost use Rattle.blocks.specs.Words.{rowWord, wordBytes, Put};
 
+// What 1 in each field of a row is in its number, where X stands lowest: Y,
+pub const ROW_Y: u64 = 65536;
+// the exponents of its width
+pub const ROW_WIDTH: u64 = 4294967296;
+// and of its height,
+pub const ROW_HEIGHT: u64 = 1099511627776;
+// the QT depth
+pub const ROW_QT: u64 = 281474976710656;
+// and the MTT depth.
+pub const ROW_MTT: u64 = 72057594037927936;
+
 // The exponent of a side, which a row stores in a byte.
 fn stored_exponent(side: u32) -> u64
     ensures { λ r. ⌜ (r ≡ exponent side % 256) × (r < 256) ⌝ }
@@ -19,10 +30,10 @@ fn stored_exponent(side: u32) -> u64
 pub fn row_word(n: Node) -> u64
     ensures { λ r. ⌜ r ≡ rowWord (rowOf n) ⌝ }
 {
-    let corner = (n.x % 65536) as u64 + (n.y % 65536) as u64 * 65536;
+    let corner = (n.x % 65536) as u64 + (n.y % 65536) as u64 * ROW_Y;
     let exponents = stored_exponent(n.w) + stored_exponent(n.h) * 256;
     let depths = (n.qt % 256) as u64 + (n.mtt % 256) as u64 * 256;
-    corner + exponents * 4294967296 + depths * 281474976710656
+    corner + exponents * ROW_WIDTH + depths * ROW_QT
 }
 
 // Stores the 8 bytes of a number at a place of a buffer.

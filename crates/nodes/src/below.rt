@@ -1,8 +1,10 @@
 // The splits that are left to the children of a node: inside the picture their open splits, out of it what their depths
 // leave, and their offset F.
 use crate::fields::mtt_depth;
+use crate::masks::DEPTH_BOUND;
 use crate::masks::Table;
 use crate::open::inner_splits;
+use blocks::ROW_MTT;
 use tree::Direction;
 ghost use mathlib.Core.Path.{_≡_};
 ghost use lib.Dec.{ltb};
@@ -14,7 +16,7 @@ ghost use Rattle.nodes.specs.Words.{boundIn, openBelow, cutsOf, depthAbo
 fn depth_bound(u: &Table) -> u32
     ensures { λ r. ⌜ r ≡ limitsIn (now (u .entry)) .maxmtt ⌝ }
 {
-    u[2]
+    u[DEPTH_BOUND]
 }
 
 // Whether a cut may be open anywhere in the tree: M is not 0.
@@ -31,9 +33,9 @@ pub fn bound(u: &Table, depths: u32) -> u64
 {
     let depth = (depth_bound(u) as u64) + ((depths / 64) as u64);
     if depth < 255 {
-        depth * 72057594037927936
+        depth * ROW_MTT
     } else {
-        255 * 72057594037927936
+        255 * ROW_MTT
     }
 }
 

@@ -5,6 +5,11 @@ use blocks::BINARY_H;
 use blocks::BINARY_V;
 use blocks::MIDDLE_H;
 use blocks::MIDDLE_V;
+use blocks::ROW_HEIGHT;
+use blocks::ROW_MTT;
+use blocks::ROW_QT;
+use blocks::ROW_WIDTH;
+use blocks::ROW_Y;
 use blocks::TERNARY_H;
 use blocks::TERNARY_V;
 use tree::Decision;
@@ -34,10 +39,10 @@ fn deeper(d: Decision) -> u64
     ensures { λ r. ⌜ (r ≡ Words.deeper d) × (281474976710656 ≤ r) × (r ≤ 72057594037927936) ⌝ }
 {
     match d {
-        Decision::Leaf => 72057594037927936,
-        Decision::Quad => 281474976710656,
-        Decision::Binary(_) => 72057594037927936,
-        Decision::Ternary(_) => 72057594037927936,
+        Decision::Leaf => ROW_MTT,
+        Decision::Quad => ROW_QT,
+        Decision::Binary(_) => ROW_MTT,
+        Decision::Ternary(_) => ROW_MTT,
     }
 }
 
@@ -47,8 +52,8 @@ fn step_to(row: u64, d: Decision, i: u32) -> u64
 {
     let place = blocks::part_at(width(row), height(row), d, i);
     let share = blocks::share_at(d, i);
-    let falls = fall(share.wide) * 4294967296 + fall(share.high) * 1099511627776;
-    deeper(d) + (place.left as u64) + (place.top as u64) * 65536 - falls
+    let falls = fall(share.wide) * ROW_WIDTH + fall(share.high) * ROW_HEIGHT;
+    deeper(d) + (place.left as u64) + (place.top as u64) * ROW_Y - falls
 }
 
 // The parent's row that a child's is made from: a quad split leaves no MTT depth.
@@ -57,7 +62,7 @@ fn row_above(row: u64, d: Decision) -> u64
 {
     match d {
         Decision::Leaf => row,
-        Decision::Quad => row % 72057594037927936,
+        Decision::Quad => row % ROW_MTT,
         Decision::Binary(_) => row,
         Decision::Ternary(_) => row,
     }
@@ -109,7 +114,7 @@ fn step_along(row: u64, v: Direction, start: u32) -> u64
 fn cut_part(row: u64, v: Direction, size: u32) -> u64
     ensures { λ r. ⌜ r ≡ cutPart row v size ⌝ }
 {
-    std::num::wrapping_add_u64(row, 72057594037927936 - (fall(size) << exponent_place(v)))
+    std::num::wrapping_add_u64(row, ROW_MTT - (fall(size) << exponent_place(v)))
 }
 
 // The rows of the parts of a binary split, which differ in their corners only.

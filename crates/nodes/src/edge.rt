@@ -3,6 +3,8 @@ use crate::fields::height;
 use crate::fields::left;
 use crate::fields::top;
 use crate::fields::width;
+use crate::masks::PICTURE_HEIGHT;
+use crate::masks::PICTURE_WIDTH;
 use crate::masks::Table;
 ghost use mathlib.Core.Path.{_≡_};
 ghost use Rattle.tree.specs.Splits.{rightOut, bottomOut};
@@ -14,18 +16,18 @@ ghost use Rattle.nodes.specs.Words.{nodeIn};
 pub fn right_out_at(u: &Table, row: u64) -> bool
     ensures { λ r. ⌜ r ≡ rightOut (limitsIn (now (u .entry))) (nodeIn row) ⌝ }
 {
-    u[5] < left(row) + width(row)
+    u[PICTURE_WIDTH] < left(row) + width(row)
 }
 
 pub fn bottom_out_at(u: &Table, row: u64) -> bool
     ensures { λ r. ⌜ r ≡ bottomOut (limitsIn (now (u .entry))) (nodeIn row) ⌝ }
 {
-    u[6] < top(row) + height(row)
+    u[PICTURE_HEIGHT] < top(row) + height(row)
 }
 
 // Whether a node begins inside the picture.
 pub fn begins_inside(u: &Table, row: u64) -> bool
     ensures { λ r. ⌜ r ≡ cornerInside (limitsIn (now (u .entry))) (nodeIn row) ⌝ }
 {
-    (left(row) < u[5]) & (top(row) < u[6])
+    (left(row) < u[PICTURE_WIDTH]) & (top(row) < u[PICTURE_HEIGHT])
 }

@@ -15,6 +15,19 @@ ghost use Rattle.nodes.specs.Tables.{sideRights, tableOf};
 // The limits, a zero, and the masks of the widths and of the heights 4 to 128, and of the areas 16 to 16,384.
 pub type Table = [u32; 31];
 
+// The places in it: of M,
+pub(crate) const DEPTH_BOUND: usize = 2;
+// of the picture's width
+pub(crate) const PICTURE_WIDTH: usize = 5;
+// and height,
+pub(crate) const PICTURE_HEIGHT: usize = 6;
+// and what the place of a mask is beyond an exponent: the width's,
+pub(crate) const WIDTH_MASKS: usize = 6;
+// the height's
+pub(crate) const HEIGHT_MASKS: usize = 12;
+// and the area's, which is the sum of both.
+pub(crate) const AREA_MASKS: usize = 16;
+
 fn same(d: Direction, e: Direction) -> bool
     ensures { λ r. ⌜ r ≡ sameDirection d e ⌝ }
 {

@@ -1,7 +1,10 @@
 // The open splits of a node, by the masks of its sides and of its area.
 use crate::fields::height_exponent;
 use crate::fields::width_exponent;
+use crate::masks::AREA_MASKS;
+use crate::masks::HEIGHT_MASKS;
 use crate::masks::Table;
+use crate::masks::WIDTH_MASKS;
 use tree::BH;
 use tree::BV;
 use tree::QT;
@@ -15,7 +18,7 @@ pub fn inner_splits(u: &Table, row: u64, splits: u32) -> u32
 {
     let w = width_exponent(row) as usize;
     let h = height_exponent(row) as usize;
-    splits & u[6 + w] & u[12 + h] & u[16 + (w + h)]
+    splits & u[WIDTH_MASKS + w] & u[HEIGHT_MASKS + h] & u[AREA_MASKS + (w + h)]
 }
 
 // The binary cut that may be open at a node that is out: a horizontal one at the bottom, else a vertical one; none in
@@ -24,7 +27,7 @@ fn edge_cut(u: &Table, row: u64, right: bool, bottom: bool) -> u32
     ensures { λ r. ⌜ (r ≡ edgeCut (now (u .entry)) row right bottom) × (r ≤ 4) ⌝ }
 {
     if bottom {
-        if right & (u[6 + width_exponent(row) as usize] & QT != 0) {
+        if right & (u[WIDTH_MASKS + width_exponent(row) as usize] & QT != 0) {
             0
         } else {
             BH
