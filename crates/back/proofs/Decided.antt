@@ -19,18 +19,18 @@ use Rattle.tree.specs.Splits.{rightOut, bottomOut, inside, isOut, rightsOf, rig
 use Rattle.tree.specs.Children.{cornerInside}
 use Rattle.tree.specs.Rows.{Row, rowOf, rowAt}
 use Rattle.tree.specs.Back.{startsAfter, atLeft, atTop, cutFrom, decisionFrom}
-use Rattle.blocks.specs.Words.{rowWord}
+use Rattle.blocks.specs.RowNumbers.{rowWord}
 use Rattle.laws.specs.Areas.{areasOf}
 use Rattle.laws.proofs.Multiples.{fold-least}
 use Rattle.laws.proofs.Opens.{binary-open, ternary-open}
 use Rattle.nodes.specs.State.{placeOf}
 use Rattle.nodes.specs.Tables.{tableOf, limitsIn}
-use Rattle.nodes.specs.Words.{nodeIn, outIn}
+use Rattle.nodes.specs.RowNodes.{nodeIn, outIn}
 use Rattle.walks.specs.Stands.{word, Placed, Inside, Outer}
 use Rattle.walks.proofs.AtEdge.{corner-is, right-is, bottom-is, out-is}
 use Rattle.walks.proofs.Open.{inside-rights, out-rights}
 use Rattle.walks.proofs.RowFields.{fits, row-says, width-says, height-says, area-says}
-use Rattle.back.specs.Table.{rowsFrom, wordAt, Eight}
+use Rattle.back.specs.Table.{rowsLeft, wordAt, Eight}
 use Rattle.back.specs.Marks.{Begins, isCut, Divided}
 use Rattle.back.specs.Walking.{Read}
 use Rattle.back.proofs.Decisions.{own-next, inside-next, out-next}
@@ -107,7 +107,7 @@ module _ {bytes : List ℕ} {u : List ℕ} {c row : ℕ} (more : placeOf c + 8 �
         says-deeper = ap₂ ltb (qt-says (s .placed) (s .row)) (next-qt eight)
 
         abbrev said : Decision
-        said = decisionFrom (k .limits) n (rowAt bytes (placeOf c)) (rowsFrom bytes (placeOf c / 8 + 1))
+        said = decisionFrom (k .limits) n (rowAt bytes (placeOf c)) (rowsLeft bytes (placeOf c / 8 + 1))
 
         said-is : said ≡ cond deeper Quad (cutFrom n rows)
         said-is =

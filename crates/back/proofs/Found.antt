@@ -16,8 +16,8 @@ use Rattle.tree.specs.Splits.{isSplit}
 use Rattle.tree.specs.Rows.{Row, rowsIn}
 use Rattle.tree.specs.Back.{startsAfter, atLeft, atTop, cutFrom}
 use Rattle.laws.proofs.Starts.{starts-past}
-use Rattle.nodes.specs.Words.{nodeIn}
-use Rattle.back.specs.Table.{rowsFrom, Eight}
+use Rattle.nodes.specs.RowNodes.{nodeIn}
+use Rattle.back.specs.Table.{rowsLeft, Eight}
 use Rattle.back.specs.Marks.{cornerAfter, cellsBefore, Marked, Begins, isCut, Cut, Divided}
 use Rattle.back.proofs.Corners.{SmallTo, starts-left, starts-top}
 use Rattle.back.proofs.NextRows.{rows-apart, rows-cells}
@@ -29,25 +29,25 @@ module _ {bytes marks : List ℕ} (m : Marked bytes marks) (i count : ℕ) (with
   is-corner : got ≡ cornerAfter (cellsBefore bytes i + count) (rowsIn bytes)
   is-corner = e ∙ m .starts (cellsBefore bytes i + count) within
 
-  starts-on : (test : Row → Bool) → startsAfter count test (rowsFrom bytes i) ≡ startsAfter (cellsBefore bytes i + count) test (rowsIn bytes)
+  starts-on : (test : Row → Bool) → startsAfter count test (rowsLeft bytes i) ≡ startsAfter (cellsBefore bytes i + count) test (rowsIn bytes)
   starts-on test =
-      sym (ap (λ rows. startsAfter (cellsBefore bytes i + count) test rows) (sym (rows-apart bytes i)) ∙ starts-past test (rowsFrom bytes i) (take i (rowsIn bytes)) count)
+      sym (ap (λ rows. startsAfter (cellsBefore bytes i + count) test rows) (sym (rows-apart bytes i)) ∙ starts-past test (rowsLeft bytes i) (take i (rowsIn bytes)) count)
 
   small-rows : SmallTo bytes (length bytes / 8) 0 (cellsBefore bytes i + count)
   small-rows j h l = subst (λ (x : ℕ). Eight bytes x) (let s : j * 8 ≡ 0 + j * 8 = omega arith in s) (m .small j h (omega arith))
 
-  pub left-shown : (x : ℕ) → x < 65535 → startsAfter count (λ r. eqb (r .x) x) (rowsFrom bytes i) ≡ eqb (got % 65536) x
+  pub left-shown : (x : ℕ) → x < 65535 → startsAfter count (λ r. eqb (r .x) x) (rowsLeft bytes i) ≡ eqb (got % 65536) x
   left-shown x h = starts-on (λ r. eqb (r .x) x) ∙ starts-left bytes x h (length bytes / 8) 0 (cellsBefore bytes i + count) small-rows ∙ ap (λ g. eqb (g % 65536) x) (sym is-corner)
 
-  pub top-shown : (y : ℕ) → y < 65535 → startsAfter count (λ r. eqb (r .y) y) (rowsFrom bytes i) ≡ eqb (got / 65536) y
+  pub top-shown : (y : ℕ) → y < 65535 → startsAfter count (λ r. eqb (r .y) y) (rowsLeft bytes i) ≡ eqb (got / 65536) y
   top-shown y h = starts-on (λ r. eqb (r .y) y) ∙ starts-top bytes y h (length bytes / 8) 0 (cellsBefore bytes i + count) small-rows ∙ ap (λ g. eqb (g / 65536) y) (sym is-corner)
 
 -- ---- the cut, by what the code has looked up
 
 -- what a mark shows of the row after so many cells from a place on
 pub record Shows (marks : List ℕ) (row at count got : ℕ) : Type 0 where
-  pub left : {bytes : List ℕ} → Marked bytes marks → Begins bytes row at → startsAfter count (atLeft (nodeIn row)) (rowsFrom bytes (at / 8)) ≡ eqb (got % 65536) (nodeIn row .x)
-  pub top : {bytes : List ℕ} → Marked bytes marks → Begins bytes row at → startsAfter count (atTop (nodeIn row)) (rowsFrom bytes (at / 8)) ≡ eqb (got / 65536) (nodeIn row .y)
+  pub left : {bytes : List ℕ} → Marked bytes marks → Begins bytes row at → startsAfter count (atLeft (nodeIn row)) (rowsLeft bytes (at / 8)) ≡ eqb (got % 65536) (nodeIn row .x)
+  pub top : {bytes : List ℕ} → Marked bytes marks → Begins bytes row at → startsAfter count (atTop (nodeIn row)) (rowsLeft bytes (at / 8)) ≡ eqb (got / 65536) (nodeIn row .y)
 
 module _ (row : ℕ) where
   pub area-is : {w h : ℕ} → w ≡ 2 ^ (row / 4294967296 % 8) → h ≡ 2 ^ (row / 1099511627776 % 8) → w * h ≡ nodeIn row .w * nodeIn row .h

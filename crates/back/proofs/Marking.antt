@@ -13,7 +13,7 @@ use lib.Seq.{getD-set-same, getD-set-other}
 use Rattle.sides.proofs.Bools.{and-left, and-right}
 use Rattle.tree.specs.Rows.{rowAt, rowsIn}
 use Rattle.tree.specs.Back.{cellsOf}
-use Rattle.back.specs.Table.{rowsFrom, wordAt, Eight}
+use Rattle.back.specs.Table.{rowsLeft, wordAt, Eight}
 use Rattle.back.specs.Marks.{cornerAfter, cellsBefore, Marked}
 use Rattle.back.proofs.Corners.{corner-here, corner-within, corner-past}
 use Rattle.back.proofs.RowWords.{word-corner, word-cells}
@@ -37,11 +37,11 @@ none-marked bytes e = record {
 }
 
 -- the corner after more cells than the rows before have
-corner-from : (bytes : List ℕ) (i c : ℕ) → cellsBefore bytes i ≤ c → cornerAfter c (rowsIn bytes) ≡ cornerAfter (c - cellsBefore bytes i) (rowsFrom bytes i)
+corner-from : (bytes : List ℕ) (i c : ℕ) → cellsBefore bytes i ≤ c → cornerAfter c (rowsIn bytes) ≡ cornerAfter (c - cellsBefore bytes i) (rowsLeft bytes i)
 corner-from bytes i c h =
     let e : c ≡ cellsBefore bytes i + (c - cellsBefore bytes i) = omega arith in
-    ap (λ rows. cornerAfter c rows) (sym (rows-apart bytes i)) ∙ ap (λ c. cornerAfter c (take i (rowsIn bytes) ++ rowsFrom bytes i)) e
-    ∙ corner-past (rowsFrom bytes i) (take i (rowsIn bytes)) (c - cellsBefore bytes i)
+    ap (λ rows. cornerAfter c rows) (sym (rows-apart bytes i)) ∙ ap (λ c. cornerAfter c (take i (rowsIn bytes) ++ rowsLeft bytes i)) e
+    ∙ corner-past (rowsLeft bytes i) (take i (rowsIn bytes)) (c - cellsBefore bytes i)
 
 module _ {bytes marks : List ℕ} {i : ℕ} (m : MarkedTo bytes marks i) where
   module _ (there : i < length bytes / 8) (fewer : cellsBefore bytes i < 1024) (eight : Eight bytes (i * 8)) where
@@ -76,7 +76,7 @@ module _ {bytes marks : List ℕ} {i : ℕ} (m : MarkedTo bytes marks i) where
     own-count : getD stored i 0 ≡ cellsBefore bytes i
     own-count = kept-first i few ∙ getD-set-same marks i (cellsBefore bytes i) 0 (let l = m .long in let f = few in omega arith)
 
-    from-row : (c : ℕ) → cellsBefore bytes i ≤ c → cornerAfter c (rowsIn bytes) ≡ cornerAfter (c - cellsBefore bytes i) (rowAt bytes (i * 8) ∷ rowsFrom bytes (i + 1))
+    from-row : (c : ℕ) → cellsBefore bytes i ≤ c → cornerAfter c (rowsIn bytes) ≡ cornerAfter (c - cellsBefore bytes i) (rowAt bytes (i * 8) ∷ rowsLeft bytes (i + 1))
     from-row c h = corner-from bytes i c h ∙ ap (λ rows. cornerAfter (c - cellsBefore bytes i) rows) (from-next bytes i there)
 
     corner-now : (c : ℕ) → c < 1024 → c < cellsBefore bytes (i + 1) → getD stored (1024 + c) 0 ≡ cornerAfter c (rowsIn bytes)
@@ -87,11 +87,11 @@ module _ {bytes marks : List ℕ} {i : ℕ} (m : MarkedTo bytes marks i) where
         go (no l) (yes k) =
             let e : c ≡ cellsBefore bytes i = omega arith in
             let z : c - cellsBefore bytes i ≡ 0 = omega arith in
-            ap (λ c. getD stored (1024 + c) 0) e ∙ own-corner ∙ sym (from-row c (omega arith) ∙ ap (λ c. cornerAfter c (rowAt bytes (i * 8) ∷ rowsFrom bytes (i + 1))) z ∙ corner-here (rowsFrom bytes (i + 1)) (rowAt bytes (i * 8)))
+            ap (λ c. getD stored (1024 + c) 0) e ∙ own-corner ∙ sym (from-row c (omega arith) ∙ ap (λ c. cornerAfter c (rowAt bytes (i * 8) ∷ rowsLeft bytes (i + 1))) z ∙ corner-here (rowsLeft bytes (i + 1)) (rowAt bytes (i * 8)))
         go (no l) (no g) =
             let n = cells-next bytes i there in
             kept-corner c (λ e. omega arith) ∙ m .ahead c h (omega arith)
-            ∙ sym (from-row c (omega arith) ∙ corner-within (rowsFrom bytes (i + 1)) (rowAt bytes (i * 8)) (c - cellsBefore bytes i) (omega arith) (omega arith))
+            ∙ sym (from-row c (omega arith) ∙ corner-within (rowsLeft bytes (i + 1)) (rowAt bytes (i * 8)) (c - cellsBefore bytes i) (omega arith) (omega arith))
 
     pub more-marked : MarkedTo bytes stored (i + 1)
     more-marked = record {

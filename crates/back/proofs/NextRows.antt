@@ -11,7 +11,7 @@ use Rattle.tree.specs.Back.{cellsOf}
 use Rattle.laws.specs.Areas.{cellsOfAll}
 use Rattle.laws.proofs.Starts.{cells-append, cells-least}
 use Rattle.laws.proofs.Tables.{rows-long}
-use Rattle.back.specs.Table.{rowsFrom}
+use Rattle.back.specs.Table.{rowsLeft}
 use Rattle.back.specs.Marks.{cellsBefore}
 
 same-rows : (bytes : List ℕ) (m n i j : ℕ) → m ≡ n → i ≡ j → rowsAt m bytes i ≡ rowsAt n bytes j
@@ -27,10 +27,10 @@ next : (bytes : List ℕ) (i j n m : ℕ) → j ≡ i + 8 → n ≡ suc m → ro
 unfolding rowsAt
 next bytes i j n m e f = rw (e, f)
 
-pub from-next : (bytes : List ℕ) (i : ℕ) → i < length bytes / 8 → rowsFrom bytes i ≡ rowAt bytes (i * 8) ∷ rowsFrom bytes (i + 1)
+pub from-next : (bytes : List ℕ) (i : ℕ) → i < length bytes / 8 → rowsLeft bytes i ≡ rowAt bytes (i * 8) ∷ rowsLeft bytes (i + 1)
 from-next bytes i h = next bytes (i * 8) ((i + 1) * 8) (length bytes / 8 - i) (length bytes / 8 - (i + 1)) (omega arith) (omega arith)
 
-pub from-end : (bytes : List ℕ) (i : ℕ) → length bytes / 8 ≤ i → rowsFrom bytes i ≡ []
+pub from-end : (bytes : List ℕ) (i : ℕ) → length bytes / 8 ≤ i → rowsLeft bytes i ≡ []
 from-end bytes i h = no-rows bytes _ _ (omega arith)
 
 -- ---- the rows before, and those from there on
@@ -42,14 +42,14 @@ drop-rows (suc k) zero bytes i = sym (no-rows bytes (0 - suc k) (i + suc k * 8) 
 drop-rows (suc k) (suc m) bytes i = drop-rows k m bytes (i + 8) ∙ same-rows bytes (m - k) (suc m - suc k) (i + 8 + k * 8) (i + suc k * 8) (omega arith) (omega arith)
 
 module _ (bytes : List ℕ) where
-  pub from-drop : (i : ℕ) → drop i (rowsIn bytes) ≡ rowsFrom bytes i
+  pub from-drop : (i : ℕ) → drop i (rowsIn bytes) ≡ rowsLeft bytes i
   from-drop i = drop-rows i (length bytes / 8) bytes 0 ∙ same-rows bytes _ (length bytes / 8 - i) (0 + i * 8) (i * 8) refl (omega arith)
 
-  pub rows-apart : (i : ℕ) → take i (rowsIn bytes) ++ rowsFrom bytes i ≡ rowsIn bytes
+  pub rows-apart : (i : ℕ) → take i (rowsIn bytes) ++ rowsLeft bytes i ≡ rowsIn bytes
   rows-apart i = ap (λ rs. take i (rowsIn bytes) ++ rs) (sym (from-drop i)) ∙ take-append-drop i (rowsIn bytes)
 
   -- the cells of some rows more
-  pub cells-on : (i k : ℕ) → cellsBefore bytes (i + k) ≡ cellsBefore bytes i + cellsOfAll (take k (rowsFrom bytes i))
+  pub cells-on : (i k : ℕ) → cellsBefore bytes (i + k) ≡ cellsBefore bytes i + cellsOfAll (take k (rowsLeft bytes i))
   cells-on i k =
       ap cellsOfAll (take-add i k (rowsIn bytes)) ∙ cells-append (take i (rowsIn bytes)) (take k (drop i (rowsIn bytes)))
       ∙ ap (λ rs. cellsBefore bytes i + cellsOfAll (take k rs)) (from-drop i)

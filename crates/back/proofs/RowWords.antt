@@ -11,8 +11,8 @@ use Rattle.sides.proofs.Bools.{clash}
 use Rattle.tree.specs.declared.Node.{Node}
 use Rattle.tree.specs.Rows.{Row, rowOf, rowAt, rowBytes}
 use Rattle.tree.specs.Back.{cellsOf, sameRow}
-use Rattle.blocks.specs.Words.{wordOf, rowWord, wordBytes}
-use Rattle.blocks.proofs.Words.{word-bytes}
+use Rattle.blocks.specs.RowNumbers.{wordOf, rowWord, wordBytes}
+use Rattle.blocks.proofs.RowNumbers.{word-bytes}
 use Rattle.laws.proofs.SameRow.{same-row}
 use Rattle.walks.proofs.Sides.{exponent-of}
 use Rattle.walks.proofs.RowFields.{Fits}

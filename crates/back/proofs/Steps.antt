@@ -19,9 +19,9 @@ use Rattle.tree.specs.Children.{cornerInside}
 use Rattle.laws.specs.Areas.{areasOf, spareOf}
 use Rattle.laws.proofs.Areas.{least-area}
 use Rattle.laws.proofs.Counts.{flags-four}
-use Rattle.nodes.specs.State.{refusal, placeOf, countOf}
+use Rattle.nodes.specs.State.{refusal, placeOf, givenOf}
 use Rattle.nodes.specs.Tables.{limitsIn}
-use Rattle.nodes.specs.Words.{nodeIn, outIn}
+use Rattle.nodes.specs.RowNodes.{nodeIn, outIn}
 use Rattle.walks.specs.Stands.{Word, word, Placed, Inside, Outer}
 use Rattle.walks.specs.Kids.{innerKids, outerKids}
 use Rattle.walks.specs.Walks.{Asked, Walked}
@@ -34,7 +34,7 @@ use Rattle.walks.proofs.Open.{out-one-cut}
 use Rattle.walks.proofs.Split.{Split, inner-split, outer-split}
 use Rattle.back.specs.Table.{wordAt, Eight, Same}
 use Rattle.back.specs.Marks.{Divided}
-use Rattle.flags.specs.Puts.{Put}
+use Rattle.flags.specs.Puts.{Follows}
 use Rattle.back.specs.Walking.{backWay, Read, ownNext}
 use Rattle.back.proofs.NextRows.{rows-cells}
 use Rattle.back.proofs.Turned.{Sees, walked-none, walked-closed, walked-leaf, turned}
@@ -43,12 +43,12 @@ use Rattle.back.proofs.Decided.{own-sees, split-sees, split-shut, out-s
 -- ---- numbers of a state
 
 -- what is stored after what was given so far
-pub as-stored : (bytes : List ℕ) {c : ℕ} {b fs z : List ℕ} {m : ℕ} → Put b (countOf c) fs z m → Stored (backWay bytes) c b fs z
+pub as-stored : (bytes : List ℕ) {c : ℕ} {b fs z : List ℕ} {m : ℕ} → Follows b (givenOf c) fs z m → Stored (backWay bytes) c b fs z
 as-stored bytes {c} {b} {fs} {z} p = record { long = p .long; first = ap (λ (i : ℕ). take i z) (sym (p .count)) ∙ p .given }
 
 module _ {bytes : List ℕ} {stands : Kind → Node → Word → Type 0} {u : List ℕ} {c : ℕ} {w : Word} (placed : (k : Kind) (n : Node) (v : Word) → stands k n v → Placed (k .limits) n) (asked : Asked (backWay bytes) stands u c (w ∷ [])) where
   -- the state is at the first byte of a row, and there is room for the flags of the node
-  pub in-room : (placeOf c % 8 ≡ 0) × (placeOf c ≤ 8192) × (countOf c + 4 ≤ 4096)
+  pub in-room : (placeOf c % 8 ≡ 0) × (placeOf c ≤ 8192) × (givenOf c + 4 ≤ 4096)
   unfolding areasOf spareOf
   in-room = some-case (backWay bytes) stands u c w asked (λ k n rows at.
       let a = least-area (placed k n w (at .stands-for) .good .shape) in
@@ -60,18 +60,18 @@ module _ {bytes : List ℕ} {stands : Kind → Node → Word → Type 0} {u : Li
       (i, omega arith, omega arith))
 
   -- the state of its children, once its flags are put
-  put-on : (rights : Rights) (d : Decision) {at i m r : ℕ} {b z : List ℕ} → at ≡ placeOf c → i ≡ countOf c → Put b i (flagsFor rights d) z m → r ≡ at % 4294967296 + m % 4294967296 * 4294967296
-      → (placeOf r ≡ placeOf c) × (countOf r ≡ countOf c + length (flagsFor rights d)) × Stored (backWay bytes) c b (flagsFor rights d) z
+  put-on : (rights : Rights) (d : Decision) {at i m r : ℕ} {b z : List ℕ} → at ≡ placeOf c → i ≡ givenOf c → Follows b i (flagsFor rights d) z m → r ≡ at % 4294967296 + m % 4294967296 * 4294967296
+      → (placeOf r ≡ placeOf c) × (givenOf r ≡ givenOf c + length (flagsFor rights d)) × Stored (backWay bytes) c b (flagsFor rights d) z
   put-on rights d {m = m} {b = b} {z = z} place count put e =
       let room = in-room .2 in
       let four = flags-four rights d in
       let n = put .count in
-      (omega arith, omega arith, as-stored bytes (subst (λ (j : ℕ). Put b j (flagsFor rights d) z m) count put))
+      (omega arith, omega arith, as-stored bytes (subst (λ (j : ℕ). Follows b j (flagsFor rights d) z m) count put))
 
 -- ---- nodes inside the picture
 
 module _ {bytes u marks : List ℕ} {c row bound splits at : ℕ} (asked : Asked (backWay bytes) (Inside bound) u c (word row splits ∷ [])) (read : Read u bytes marks) (place : at ≡ placeOf c) where
-  room : (placeOf c % 8 ≡ 0) × (placeOf c ≤ 8192) × (countOf c + 4 ≤ 4096)
+  room : (placeOf c % 8 ≡ 0) × (placeOf c ≤ 8192) × (givenOf c + 4 ≤ 4096)
   room = in-room (λ k n v s. s .placed) asked
 
   pub at-row : (length bytes % 8 ≡ 0) × (at % 8 ≡ 0)
@@ -83,12 +83,12 @@ module _ {bytes u marks : List ℕ} {c row bound splits at : ℕ} (asked : Asked
   few-splits : splits < 32
   few-splits = some-case (backWay bytes) (Inside bound) u c (word row splits) asked (λ k n rows at. let s = splits-small (rightsOf k n) in let e = at .stands-for .splits in omega arith)
 
-  pub leaf-room : {len : ℕ} → len ≡ 4096 → (countOf c < 4096) × (placeOf c ≤ 8192) × (len ≡ 4096) × (splits < 32)
+  pub leaf-room : {len : ℕ} → len ≡ 4096 → (givenOf c < 4096) × (placeOf c ≤ 8192) × (len ≡ 4096) × (splits < 32)
   leaf-room l = let r = room .2 in (omega arith, room .1, l, few-splits)
 
   module _ {same : Bool} (tests : Same bytes at row same) where
     -- the own row is next
-    pub walked-own : same ≡ true → {b z : List ℕ} {r : ℕ} → Put b (countOf c) (flagsFor (rightsIn false splits) Leaf) z (countOf r) × (placeOf r ≡ placeOf c + 8)
+    pub walked-own : same ≡ true → {b z : List ℕ} {r : ℕ} → Follows b (givenOf c) (flagsFor (rightsIn false splits) Leaf) z (givenOf r) × (placeOf r ≡ placeOf c + 8)
         → Walked (backWay bytes) (Inside bound) u c (word row splits ∷ []) b r z
     walked-own yes-own {b} {z} {r} put =
         let both = sym (tests .tests) ∙ yes-own in
@@ -124,7 +124,7 @@ module _ {bytes u marks : List ℕ} {c row bound splits at : ℕ} (asked : Asked
     walked-shut e h = walked-closed bytes (Inside bound) u c (word row splits) more (split-shut more eight read differs divides-here (tested-not e h))
 
     -- its flags are put, and its children are walked
-    pub splits-inside : allows (rightsIn false splits) d ≡ true → {b z : List ℕ} {i m r : ℕ} → i ≡ countOf c → Put b i (flagsFor (rightsIn false splits) d) z m → r ≡ at % 4294967296 + m % 4294967296 * 4294967296
+    pub splits-inside : allows (rightsIn false splits) d ≡ true → {b z : List ℕ} {i m r : ℕ} → i ≡ givenOf c → Follows b i (flagsFor (rightsIn false splits) d) z m → r ≡ at % 4294967296 + m % 4294967296 * 4294967296
         → Split (backWay bytes) c d b r z (Inside bound) u (word row splits) (innerKids u row bound d)
     splits-inside ok count put e =
         let on = put-on (inside-placed bound) asked (rightsIn false splits) d place count put e in
@@ -172,7 +172,7 @@ module _ {bytes u marks : List ℕ} {c row depths at : ℕ} (asked : Asked (back
         edge-shut f h = walked-closed bytes Outer u c (word row depths) out-more (λ k n rows i. (d, edge-sees .seen i, ap (λ r. allows r d) (edge-sees .rights-of i) ∙ tested-not f h))
 
         -- its flags are put, and its children are walked
-        pub splits-out : allows (rightsIn true splits) d ≡ true → {b z : List ℕ} {i m r : ℕ} → i ≡ countOf c → Put b i (flagsFor (rightsIn true splits) d) z m → r ≡ at % 4294967296 + m % 4294967296 * 4294967296
+        pub splits-out : allows (rightsIn true splits) d ≡ true → {b z : List ℕ} {i m r : ℕ} → i ≡ givenOf c → Follows b i (flagsFor (rightsIn true splits) d) z m → r ≡ at % 4294967296 + m % 4294967296 * 4294967296
             → Split (backWay bytes) c d b r z Outer u (word row depths) (outerKids u row depths d)
         splits-out ok count put f =
             let on = put-on outer-placed asked (rightsIn true splits) d place count put f in

@@ -18,13 +18,13 @@ use Rattle.tree.specs.Run.{before}
 use Rattle.tree.specs.Back.{decisionFrom, backNode}
 use Rattle.laws.proofs.BackSteps.{back-none, back-closed, back-leaf, back-split}
 use Rattle.laws.proofs.Counts.{flags-four}
-use Rattle.nodes.specs.State.{refusal, placeOf, countOf}
+use Rattle.nodes.specs.State.{refusal, placeOf, givenOf}
 use Rattle.walks.specs.Stands.{Word, Placed}
 use Rattle.walks.specs.Walks.{walkOver, Done, Walked}
 use Rattle.walks.proofs.One.{Stored, Case, each-case, one-refused, one-done}
 use Rattle.walks.proofs.RowFields.{shallow}
 use Rattle.walks.proofs.Split.{Turn}
-use Rattle.back.specs.Table.{rowsFrom}
+use Rattle.back.specs.Table.{rowsLeft}
 use Rattle.back.specs.Marks.{cellsBefore}
 use Rattle.back.specs.Walking.{Left, backWay}
 use Rattle.back.proofs.NextRows.{from-next, from-end}
@@ -36,14 +36,14 @@ module _ {bytes : List ℕ} {at : ℕ} {rows : List Row} (l : Left bytes at rows
   no-row h = l .from ∙ from-end bytes (at / 8) (omega arith)
 
   module _ (more : at + 8 ≤ length bytes) where
-    pub next-row : rows ≡ rowAt bytes at ∷ rowsFrom bytes (at / 8 + 1)
+    pub next-row : rows ≡ rowAt bytes at ∷ rowsLeft bytes (at / 8 + 1)
     next-row =
         let f = l .first in
         let e : at / 8 * 8 ≡ at = omega arith in
-        l .from ∙ from-next bytes (at / 8) (omega arith) ∙ ap (λ (i : ℕ). rowAt bytes i ∷ rowsFrom bytes (at / 8 + 1)) e
+        l .from ∙ from-next bytes (at / 8) (omega arith) ∙ ap (λ (i : ℕ). rowAt bytes i ∷ rowsLeft bytes (at / 8 + 1)) e
 
-    after-row : Left bytes (at + 8) (rowsFrom bytes (at / 8 + 1))
-    after-row = let f = l .first in let e : at / 8 + 1 ≡ (at + 8) / 8 = omega arith in record { from = ap (rowsFrom bytes) e; first = omega arith; within = more }
+    after-row : Left bytes (at + 8) (rowsLeft bytes (at / 8 + 1))
+    after-row = let f = l .first in let e : at / 8 + 1 ≡ (at + 8) / 8 = omega arith in record { from = ap (rowsLeft bytes) e; first = omega arith; within = more }
 
 -- ---- one node
 
@@ -51,7 +51,7 @@ module _ {bytes : List ℕ} {at : ℕ} {rows : List Row} (l : Left bytes at rows
 pub record Seen (k : Kind) (n : Node) (bytes : List ℕ) (at : ℕ) (d : Decision) : Type 0 where
   pub placed : Placed (k .limits) n
   pub here : cornerInside (k .limits) n ≡ true
-  pub decides : decisionFrom (k .limits) n (rowAt bytes at) (rowsFrom bytes (at / 8 + 1)) ≡ d
+  pub decides : decisionFrom (k .limits) n (rowAt bytes at) (rowsLeft bytes (at / 8 + 1)) ≡ d
 
 module _ {bytes : List ℕ} (k : Kind) (n : Node) {c : ℕ} {rows : List Row} (l : Left bytes (placeOf c) rows) {b : List ℕ} where
   -- no row is left
@@ -62,11 +62,11 @@ module _ {bytes : List ℕ} (k : Kind) (n : Node) {c : ℕ} {rows : List Row} (l
     done-closed : allows (rightsOf k n) d ≡ false → Done (backWay bytes) (walkOver (backWay bytes) k (n ∷ []) rows) c b (refusal 16 0) b
     done-closed shut = one-refused (backWay bytes) refl k n rows c b (s .here) (ap (backNode k n) (next-row l more) ∙ back-closed k n (shallow (s .placed)) _ _ (s .decides) shut)
 
-    done-leaf : d ≡ Leaf → allows (rightsOf k n) Leaf ≡ true → {r : ℕ} {z : List ℕ} → placeOf r ≡ placeOf c + 8 → countOf r ≡ countOf c + length (flagsFor (rightsOf k n) Leaf)
+    done-leaf : d ≡ Leaf → allows (rightsOf k n) Leaf ≡ true → {r : ℕ} {z : List ℕ} → placeOf r ≡ placeOf c + 8 → givenOf r ≡ givenOf c + length (flagsFor (rightsOf k n) Leaf)
         → Stored (backWay bytes) c b (flagsFor (rightsOf k n) Leaf) z → Done (backWay bytes) (walkOver (backWay bytes) k (n ∷ []) rows) c b r z
     done-leaf leaf ok {r} place count put =
         one-done (backWay bytes) refl k n rows c b (s .here) (ap (backNode k n) (next-row l more) ∙ back-leaf k n (shallow (s .placed)) _ _ (s .decides ∙ leaf) ok) count
-        (subst (λ (p : ℕ). Left bytes p (rowsFrom bytes (placeOf c / 8 + 1))) (sym place) (after-row l more)) put
+        (subst (λ (p : ℕ). Left bytes p (rowsLeft bytes (placeOf c / 8 + 1))) (sym place) (after-row l more)) put
 
 -- ---- what the code knows: some node that its numbers stand for, and the same for all such nodes
 
@@ -93,12 +93,12 @@ module _ (bytes : List ℕ) (stands : Kind → Node → Word → Type 0) (u : Li
       allowed : {k : Kind} {n : Node} {rows : List Row} → At k n rows → allows (rightsOf k n) d ≡ true
       allowed at = ap (λ r. allows r d) (sees .rights-of at) ∙ ok
 
-      module _ {b mid : List ℕ} {m : ℕ} (put : Stored (backWay bytes) c b (flagsFor rights d) mid) (count : countOf m ≡ countOf c + length (flagsFor rights d)) where
+      module _ {b mid : List ℕ} {m : ℕ} (put : Stored (backWay bytes) c b (flagsFor rights d) mid) (count : givenOf m ≡ givenOf c + length (flagsFor rights d)) where
         pub walked-leaf : d ≡ Leaf → placeOf m ≡ placeOf c + 8 → Walked (backWay bytes) stands u c (w ∷ []) b m mid
         walked-leaf leaf place = each-case (backWay bytes) stands u c w (λ k n rows at.
             let e : flagsFor rights d ≡ flagsFor (rightsOf k n) Leaf = ap (λ r. flagsFor r d) (sym (sees .rights-of at)) ∙ ap (flagsFor (rightsOf k n)) leaf in
             done-leaf k n (at .placed) (sees .seen at) more leaf (ap (allows (rightsOf k n)) (sym leaf) ∙ allowed at) place
-            (count ∙ ap (λ fs. countOf c + length fs) e) (subst (λ fs. Stored (backWay bytes) c b fs mid) e put))
+            (count ∙ ap (λ fs. givenOf c + length fs) e) (subst (λ fs. Stored (backWay bytes) c b fs mid) e put))
 
         -- a split
         pub turned : placeOf m ≡ placeOf c → isSplit d ≡ true → (k : Kind) (n : Node) (rows : List Row) → At k n rows → Turn (backWay bytes) c d b m mid k n rows

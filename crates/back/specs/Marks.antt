@@ -11,8 +11,8 @@ use Rattle.tree.specs.Splits.{isSplit}
 use Rattle.tree.specs.Rows.{Row, rowsIn}
 use Rattle.tree.specs.Back.{cellsOf, cutFrom}
 use Rattle.laws.specs.Areas.{cellsOfAll}
-use Rattle.nodes.specs.Words.{nodeIn}
-use Rattle.back.specs.Table.{rowsFrom, Eight}
+use Rattle.nodes.specs.RowNodes.{nodeIn}
+use Rattle.back.specs.Table.{rowsLeft, Eight}
 
 -- the corner of the row before which exactly so many cells go by, as the low half of its number; all ones where no row starts there
 unfoldable pub cornerAfter : ℕ → List Row → ℕ
@@ -45,7 +45,7 @@ isCut (Ternary d) = true
 -- what `cut_ahead` answers: a cut in any case, and the one that the rows show where the marks are a table's
 pub record Cut (marks : List ℕ) (row at : ℕ) (d : Decision) : Type 0 where
   pub cut : isCut d ≡ true
-  pub found : (bytes : List ℕ) → Marked bytes marks → Begins bytes row at → d ≡ cutFrom (nodeIn row) (rowsFrom bytes (at / 8))
+  pub found : (bytes : List ℕ) → Marked bytes marks → Begins bytes row at → d ≡ cutFrom (nodeIn row) (rowsLeft bytes (at / 8))
 
 -- what `decision_inside` answers, in any case a split: a quad one before a row of a larger QT depth, else a cut
 pub record Divided (marks : List ℕ) (row next at : ℕ) (d : Decision) : Type 0 where
@@ -53,4 +53,4 @@ pub record Divided (marks : List ℕ) (row next at : ℕ) (d : Decision) : Type 
   pub deeper : ltb (nodeIn row .qt) (nodeIn next .qt) ≡ true → d ≡ Quad
   pub flat : ltb (nodeIn row .qt) (nodeIn next .qt) ≡ false → isCut d ≡ true
   pub found : (bytes : List ℕ) → Marked bytes marks → Begins bytes row at
-      → d ≡ cond (ltb (nodeIn row .qt) (nodeIn next .qt)) Quad (cutFrom (nodeIn row) (rowsFrom bytes (at / 8)))
+      → d ≡ cond (ltb (nodeIn row .qt) (nodeIn next .qt)) Quad (cutFrom (nodeIn row) (rowsLeft bytes (at / 8)))

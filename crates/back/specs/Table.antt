@@ -6,11 +6,11 @@ use mathlib.Core.List.{List, [], _∷_}
 use lib.Dec.{ltb, eqb}
 use lib.ListN.{length, getD}
 use Rattle.tree.specs.Rows.{Row, rowsAt}
-use Rattle.blocks.specs.Words.{wordOf}
+use Rattle.blocks.specs.RowNumbers.{wordOf}
 
 -- the rows of a table from the row with a number on
-abbrev pub rowsFrom : List ℕ → ℕ → List Row
-rowsFrom bytes i = rowsAt (length bytes / 8 - i) bytes (i * 8)
+abbrev pub rowsLeft : List ℕ → ℕ → List Row
+rowsLeft bytes i = rowsAt (length bytes / 8 - i) bytes (i * 8)
 
 -- the 8 bytes at a place as one number, the first the lowest
 unfoldable pub wordAt : List ℕ → ℕ → ℕ

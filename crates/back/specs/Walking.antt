@@ -10,12 +10,12 @@ use Rattle.tree.specs.Back.{backNode}
 use Rattle.nodes.specs.State.{placeOf}
 use Rattle.nodes.specs.Tables.{limitsIn}
 use Rattle.walks.specs.Walks.{Way}
-use Rattle.back.specs.Table.{rowsFrom, wordAt}
+use Rattle.back.specs.Table.{rowsLeft, wordAt}
 use Rattle.back.specs.Marks.{cellsBefore, Marked}
 
 -- these rows are left at a place of a table, which is the first byte of a row
 pub record Left (bytes : List ℕ) (at : ℕ) (rows : List Row) : Type 0 where
-  pub from : rows ≡ rowsFrom bytes (at / 8)
+  pub from : rows ≡ rowsLeft bytes (at / 8)
   pub first : at % 8 ≡ 0
   pub within : at ≤ length bytes
 

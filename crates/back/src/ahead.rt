@@ -9,7 +9,7 @@ ghost use mathlib.Core.Bool.{cond};
 ghost use lib.Dec.{ltb};
 ghost use Rattle.tree.specs.declared.Decision.the-variants.{Quad, Binary};
 ghost use Rattle.tree.specs.declared.Direction.the-variants.{Horizontal, Vertical};
-ghost use Rattle.nodes.specs.Words.{nodeIn};
+ghost use Rattle.nodes.specs.RowNodes.{nodeIn};
 ghost use Rattle.back.specs.Marks.{Cut, Divided};
 
 // The cut of a node inside the picture, whose rows begin at a place. The tests are branches: by selects the three

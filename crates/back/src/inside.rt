@@ -23,14 +23,14 @@ ghost use Rattle.walks.specs.Walks.{Asked, Walked};
 ghost use Prim.Native.Nat.{_+_, _<_, _≤_};
 ghost use Rattle.tree.specs.Splits.{rightsIn};
 ghost use Rattle.tree.specs.Flags.{flagsFor};
-ghost use Rattle.nodes.specs.State.{placeOf, countOf};
-ghost use Rattle.flags.specs.Puts.{Put};
+ghost use Rattle.nodes.specs.State.{placeOf, givenOf};
+ghost use Rattle.flags.specs.Puts.{Follows};
 ghost use Rattle.back.specs.Walking.{backWay, Read, ownNext};
 
 // A leaf: its split flag, where some split is open, and on to the next row.
 pub(crate) fn leaf(flags: &mut Scratch, c: u64, splits: u32) -> u64
-    requires { ⌜ (countOf c < 4096) × (placeOf c ≤ 8192) × (length (now flags) ≡ 4096) × (splits < 32) ⌝ }
-    ensures { λ r. ⌜ Put (now (flags .entry)) (countOf c) (flagsFor (rightsIn false splits) Leaf) (now (flags .exit)) (countOf r) × (placeOf r ≡ placeOf c + 8) ⌝ }
+    requires { ⌜ (givenOf c < 4096) × (placeOf c ≤ 8192) × (length (now flags) ≡ 4096) × (splits < 32) ⌝ }
+    ensures { λ r. ⌜ Follows (now (flags .entry)) (givenOf c) (flagsFor (rightsIn false splits) Leaf) (now (flags .exit)) (givenOf r) × (placeOf r ≡ placeOf c + 8) ⌝ }
 {
     if splits == 0 {
         return nodes::further(c, 8);

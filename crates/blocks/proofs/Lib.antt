@@ -1,4 +1,4 @@
 pub mod Pastes
 pub mod Shares
-pub mod Words
+pub mod RowNumbers
 pub mod WordCopies

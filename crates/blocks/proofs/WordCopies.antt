@@ -5,7 +5,7 @@ use mathlib.Core.List.{List, [], _∷_, _++_, append-assoc, append-nil}
 use native.Mathlib.Omega.{arith}
 use lib.ListN.{length, take, drop, getD, length-append, length-drop}
 use lib.Seq.{sets, sets-eq, take-at, drop-at, drop-drop, take-suc, length-take-le}
-use Rattle.blocks.specs.Words.{wordBytes, wordsBytes}
+use Rattle.blocks.specs.RowNumbers.{wordBytes, wordsBytes}
 
 word-length : (w : ℕ) → length (wordBytes w) ≡ 8
 unfolding wordBytes

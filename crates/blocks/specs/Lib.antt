@@ -1,3 +1,3 @@
 pub mod Copies
 pub mod Table
-pub mod Words
+pub mod RowNumbers

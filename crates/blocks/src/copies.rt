@@ -5,7 +5,7 @@ ghost use mathlib.Core.List.{_++_};
 ghost use Prim.Native.Nat.{_*_, _≤_, min};
 ghost use lib.ListN.{length, take, drop};
 ghost use Rattle.blocks.specs.Copies.{copied};
-ghost use Rattle.blocks.specs.Words.{wordsBytes};
+ghost use Rattle.blocks.specs.RowNumbers.{wordsBytes};
 
 // The smaller of two numbers of bytes.
 fn fewer(a: usize, b: usize) -> usize

@@ -6,7 +6,7 @@ ghost use lib.ListN.{length};
 ghost use lib.Seq.{sets};
 ghost use Rattle.sides.specs.Side.{exponent};
 ghost use Rattle.tree.specs.Rows.{rowOf};
-ghost use Rattle.blocks.specs.Words.{rowWord, wordBytes, Put};
+ghost use Rattle.blocks.specs.RowNumbers.{rowWord, wordBytes, Put};
 
 // What 1 in each field of a row is in its number, where X stands lowest: Y,
 pub const ROW_Y: u64 = 65536;

@@ -19,7 +19,7 @@ use Rattle.tree.specs.declared.Decision.{Decision}
 use Rattle.tree.specs.declared.Decision.the-variants.{Leaf, Quad, Binary, Ternary}
 use Rattle.tree.specs.Splits.{pick, bit, has, binaryMask, ternaryMask, rightsIn, allows}
 use Rattle.tree.specs.Flags.{flagByte, flagsFor}
-use Rattle.flags.specs.Puts.{Put, isQuad}
+use Rattle.flags.specs.Puts.{Follows, isQuad}
 
 -- ---- stores
 
@@ -32,23 +32,23 @@ byte-small true = omega arith
 byte-small false = omega arith
 
 -- one flag
-pub put-one : (b : List ℕ) (n : ℕ) (value : ℕ) → n < length b → Put b n (value ∷ []) (set b n value) (n + 1)
+pub put-one : (b : List ℕ) (n : ℕ) (value : ℕ) → n < length b → Follows b n (value ∷ []) (set b n value) (n + 1)
 put-one b n value h = record { long = length-set b n value; count = refl; given = rw (add-one n) (take-suc-set b n value h) }
 
 -- none, whatever is stored in its place
-pub put-none : (b : List ℕ) (n : ℕ) (value : ℕ) → Put b n [] (set b n value) n
+pub put-none : (b : List ℕ) (n : ℕ) (value : ℕ) → Follows b n [] (set b n value) n
 put-none b n value = record { long = length-set b n value; count = omega arith; given = take-set-le n b n value (omega arith) ∙ sym (append-nil (take n b)) }
 
-pub put-same : (b : List ℕ) (n : ℕ) → Put b n [] b n
+pub put-same : (b : List ℕ) (n : ℕ) → Follows b n [] b n
 put-same b n = record { long = refl; count = omega arith; given = sym (append-nil (take n b)) }
 
 -- a flag, where it is present
-pub put-flag : (b : List ℕ) (n : ℕ) (there value : Bool) → n < length b → Put b n (flagByte there value) (set b n (boolByte value)) (n + boolByte there) × (n + boolByte there ≤ n + 1)
+pub put-flag : (b : List ℕ) (n : ℕ) (there value : Bool) → n < length b → Follows b n (flagByte there value) (set b n (boolByte value)) (n + boolByte there) × (n + boolByte there ≤ n + 1)
 put-flag b n true value h = (rw (byte-bit value) (put-one b n (bit value 1) h), omega arith)
 put-flag b n false value h = (let z : n + 0 ≡ n = omega arith in rw z (put-none b n (boolByte value)), omega arith)
 
 -- two lists, one after the other
-pub put-two : {b : List ℕ} {n : ℕ} {xs ys : List ℕ} {b₁ b₂ : List ℕ} {n₁ n₂ : ℕ} → Put b n xs b₁ n₁ → Put b₁ n₁ ys b₂ n₂ → Put b n (xs ++ ys) b₂ n₂
+pub put-two : {b : List ℕ} {n : ℕ} {xs ys : List ℕ} {b₁ b₂ : List ℕ} {n₁ n₂ : ℕ} → Follows b n xs b₁ n₁ → Follows b₁ n₁ ys b₂ n₂ → Follows b n (xs ++ ys) b₂ n₂
 put-two {b} {n} {xs} {ys} p q =
     let e = p .count in
     let f = q .count in
@@ -179,19 +179,19 @@ module _ (splits : ℕ) where
 
 module _ (splits : ℕ) {b : List ℕ} {n : ℕ} (room : n < length b) where
   pub stored-quad : has splits 1 ≡ true → {flat steep : Bool} → flat ≡ (has splits 2 || has splits 8) → steep ≡ (has splits 4 || has splits 16) → {after : List ℕ} {m : ℕ}
-      → Put (set b n 1) (n + 1) (flagByte (flat || steep) true) after m → Put b n (flagsFor (rightsIn false splits) Quad) after m
+      → Follows (set b n 1) (n + 1) (flagByte (flat || steep) true) after m → Follows b n (flagsFor (rightsIn false splits) Quad) after m
   stored-quad ok f s p = rw (quad-flags splits ok, ← f, ← s) (put-two (put-one b n 1 room) p)
 
   pub stored-binary : (d : Direction) → has splits (binaryMask d) ≡ true → {other : ℕ} → other ≡ ternaryMask d → {after : List ℕ} {m : ℕ}
-      → Put (set b n 1) (n + 1) (cutRest splits d other true) after m → Put b n (flagsFor (rightsIn false splits) (Binary d)) after m
+      → Follows (set b n 1) (n + 1) (cutRest splits d other true) after m → Follows b n (flagsFor (rightsIn false splits) (Binary d)) after m
   stored-binary d ok o p = rw (binary-flags splits d ok, ← o) (put-two (put-one b n 1 room) p)
 
   pub stored-ternary : (d : Direction) → has splits (ternaryMask d) ≡ true → {other : ℕ} → other ≡ binaryMask d → {after : List ℕ} {m : ℕ}
-      → Put (set b n 1) (n + 1) (cutRest splits d other false) after m → Put b n (flagsFor (rightsIn false splits) (Ternary d)) after m
+      → Follows (set b n 1) (n + 1) (cutRest splits d other false) after m → Follows b n (flagsFor (rightsIn false splits) (Ternary d)) after m
   stored-ternary d ok o p = rw (ternary-flags splits d ok, ← o) (put-two (put-one b n 1 room) p)
 
-  pub stored-leaf : splits < 32 → ¬ (splits ≡ 0) → Put b n (flagsFor (rightsIn false splits) Leaf) (set b n 0) (n + 1)
+  pub stored-leaf : splits < 32 → ¬ (splits ≡ 0) → Follows b n (flagsFor (rightsIn false splits) Leaf) (set b n 0) (n + 1)
   stored-leaf small some = rw (leaf-flags splits small, ne-eqb splits 0 some) (put-one b n 0 room)
 
-pub no-leaf : {splits : ℕ} (b : List ℕ) (n : ℕ) → splits ≡ 0 → Put b n (flagsFor (rightsIn false splits) Leaf) b n
+pub no-leaf : {splits : ℕ} (b : List ℕ) (n : ℕ) → splits ≡ 0 → Follows b n (flagsFor (rightsIn false splits) Leaf) b n
 no-leaf {splits} b n e = rw (e, leaf-flags 0 (omega arith)) (put-same b n)

@@ -8,7 +8,7 @@ use Rattle.tree.specs.declared.Decision.{Decision}
 use Rattle.tree.specs.declared.Decision.the-variants.{Leaf, Quad, Binary, Ternary}
 
 -- flags follow the first n of a buffer, and there are m then; what the buffer has after these is not said
-pub record Put (before : List ℕ) (n : ℕ) (flags after : List ℕ) (m : ℕ) : Type 0 where
+pub record Follows (before : List ℕ) (n : ℕ) (flags after : List ℕ) (m : ℕ) : Type 0 where
   pub long : length after ≡ length before
   pub count : m ≡ n + length flags
   pub given : take m after ≡ take n before ++ flags

@@ -19,7 +19,7 @@ ghost use lib.ListN.{length};
 ghost use Rattle.tree.specs.declared.Decision.the-variants.{Leaf, Binary, Ternary};
 ghost use Rattle.tree.specs.Splits.{rightsIn, allows, isSplit, has, pick};
 ghost use Rattle.tree.specs.Flags.{someOpen, flagByte, flagsFor};
-ghost use Rattle.flags.specs.Puts.{Put, isQuad};
+ghost use Rattle.flags.specs.Puts.{Follows, isQuad};
 
 // Whether the open splits of a node, inside the picture or out of it, allow a decision.
 pub fn allowed(out: bool, splits: u32, d: Decision) -> bool
@@ -45,7 +45,7 @@ pub type Scratch = [u8; 4096];
 // One flag, where it is present; answers how many flags there are then.
 fn put(flags: &mut Scratch, n: usize, there: bool, value: bool) -> usize
     requires { ⌜ (n < 4096) × (length (now flags) ≡ 4096) ⌝ }
-    ensures { λ r. ⌜ Put (now (flags .entry)) n (flagByte there value) (now (flags .exit)) r × (r ≤ n + 1) ⌝ }
+    ensures { λ r. ⌜ Follows (now (flags .entry)) n (flagByte there value) (now (flags .exit)) r × (r ≤ n + 1) ⌝ }
 {
     flags[n] = value as u8;
     n + there as usize
@@ -88,7 +88,7 @@ fn put_cut(
     binary: bool,
 ) -> usize
     requires { ⌜ (n + 3 ≤ 4096) × (length (now flags) ≡ 4096) ⌝ }
-    ensures { λ r. ⌜ Put (now (flags .entry)) n (flagByte (has splits 1) false ++ (flagByte (has splits (pick v 20 10)) (pick v false true) ++ flagByte (has splits other) binary)) (now (flags .exit)) r ⌝ }
+    ensures { λ r. ⌜ Follows (now (flags .entry)) n (flagByte (has splits 1) false ++ (flagByte (has splits (pick v 20 10)) (pick v false true) ++ flagByte (has splits other) binary)) (now (flags .exit)) r ⌝ }
 {
     let quad_end = put(flags, n, splits & QT != 0, false);
     let vertical_end = put(flags, quad_end, splits & other_cuts(v) != 0, upright(v));
@@ -98,7 +98,7 @@ fn put_cut(
 // The flags of an open split of a node inside the picture.
 pub fn put_split(flags: &mut Scratch, n: usize, splits: u32, d: Decision) -> usize
     requires { ⌜ (n + 4 ≤ 4096) × (length (now flags) ≡ 4096) × (isSplit d ≡ true) × (allows (rightsIn false splits) d ≡ true) ⌝ }
-    ensures { λ r. ⌜ Put (now (flags .entry)) n (flagsFor (rightsIn false splits) d) (now (flags .exit)) r ⌝ }
+    ensures { λ r. ⌜ Follows (now (flags .entry)) n (flagsFor (rightsIn false splits) d) (now (flags .exit)) r ⌝ }
 {
     flags[n] = 1;
     match d {
@@ -123,7 +123,7 @@ fn is_quad(d: Decision) -> bool
 // The flags of an open split of a node that is out: no ternary cut is open, and not both binary ones.
 pub fn put_out(flags: &mut Scratch, n: usize, splits: u32, d: Decision) -> usize
     requires { ⌜ (n + 4 ≤ 4096) × (length (now flags) ≡ 4096) × (allows (rightsIn true splits) d ≡ true) × (has splits 8 ≡ false) × (has splits 16 ≡ false) × ((has splits 2 && has splits 4) ≡ false) ⌝ }
-    ensures { λ r. ⌜ Put (now (flags .entry)) n (flagsFor (rightsIn true splits) d) (now (flags .exit)) r ⌝ }
+    ensures { λ r. ⌜ Follows (now (flags .entry)) n (flagsFor (rightsIn true splits) d) (now (flags .exit)) r ⌝ }
 {
     put(
         flags,

@@ -11,7 +11,7 @@ use Rattle.tree.specs.Splits.{pick, along}
 use Rattle.tree.specs.Children.{shares}
 use Rattle.blocks.specs.Table.{shareTable, shareAt}
 use Rattle.blocks.proofs.Shares.{either-way}
-use Rattle.nodes.specs.Words.{nodeIn, childRow, stepAlong, cutPart}
+use Rattle.nodes.specs.RowNodes.{nodeIn, childRow, stepAlong, cutPart}
 use Rattle.nodes.proofs.Bounds.{side-small}
 
 -- ---- the direction as data: shifts by the places that it names

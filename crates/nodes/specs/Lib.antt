@@ -1,3 +1,3 @@
-pub mod Words
+pub mod RowNodes
 pub mod Tables
 pub mod State

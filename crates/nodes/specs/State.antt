@@ -5,8 +5,8 @@ use Prim.Native.Nat.{ℕ, _+_, _*_, _/_, _%_}
 abbrev pub placeOf : ℕ → ℕ
 placeOf c = c % 4294967296
 
-abbrev pub countOf : ℕ → ℕ
-countOf c = c / 4294967296
+abbrev pub givenOf : ℕ → ℕ
+givenOf c = c / 4294967296
 
 abbrev pub refusal : ℕ → ℕ → ℕ
 refusal number place = 9223372036854775808 + place * 32 + number

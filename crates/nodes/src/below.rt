@@ -10,7 +10,7 @@ ghost use mathlib.Core.Path.{_≡_};
 ghost use lib.Dec.{ltb};
 ghost use Prim.Native.Nat.{_≤_, _<_};
 ghost use Rattle.nodes.specs.Tables.{limitsIn};
-ghost use Rattle.nodes.specs.Words.{boundIn, openBelow, cutsOf, depthAbove, depthBelow};
+ghost use Rattle.nodes.specs.RowNodes.{boundIn, openBelow, cutsOf, depthAbove, depthBelow};
 
 // M, the bound of the MTT depth.
 fn depth_bound(u: &Table) -> u32

@@ -19,12 +19,12 @@ ghost use Prim.Native.Nat.{_≤_};
 ghost use Rattle.tree.specs.Splits as Splits;
 ghost use Rattle.tree.specs.declared.Decision.the-variants.{Binary, Ternary};
 ghost use Rattle.blocks.specs.Table.{shareAt};
-ghost use Rattle.nodes.specs.Words as Words;
-ghost use Rattle.nodes.specs.Words.{stepTo, rowAbove, childRow, stepAlong, cutPart};
+ghost use Rattle.nodes.specs.RowNodes as RowNodes;
+ghost use Rattle.nodes.specs.RowNodes.{stepTo, rowAbove, childRow, stepAlong, cutPart};
 
 // By how much the exponent of a part's side is below its parent's, from the part's length in quarters.
 fn fall(size: u32) -> u64
-    ensures { λ r. ⌜ (r ≡ Words.fall size) × (r ≤ 2) ⌝ }
+    ensures { λ r. ⌜ (r ≡ RowNodes.fall size) × (r ≤ 2) ⌝ }
 {
     if size == 1 {
         2
@@ -36,7 +36,7 @@ fn fall(size: u32) -> u64
 // What a child adds to its parent's depths in the row's number: 1 to the QT depth under a quad split, else 1 to the
 // MTT depth.
 fn deeper(d: Decision) -> u64
-    ensures { λ r. ⌜ (r ≡ Words.deeper d) × (281474976710656 ≤ r) × (r ≤ 72057594037927936) ⌝ }
+    ensures { λ r. ⌜ (r ≡ RowNodes.deeper d) × (281474976710656 ≤ r) × (r ≤ 72057594037927936) ⌝ }
 {
     match d {
         Decision::Leaf => ROW_MTT,
@@ -97,7 +97,7 @@ fn corner_place(v: Direction) -> u32
 
 // The side that a cut divides.
 fn side_along(row: u64, v: Direction) -> u64
-    ensures { λ r. ⌜ (r ≡ Splits.along v (Words.nodeIn row)) × (r ≤ 128) ⌝ }
+    ensures { λ r. ⌜ (r ≡ Splits.along v (RowNodes.nodeIn row)) × (r ≤ 128) ⌝ }
 {
     1 << ((row >> exponent_place(v)) % 8)
 }

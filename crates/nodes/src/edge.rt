@@ -10,7 +10,7 @@ ghost use mathlib.Core.Path.{_≡_};
 ghost use Rattle.tree.specs.Splits.{rightOut, bottomOut};
 ghost use Rattle.tree.specs.Children.{cornerInside};
 ghost use Rattle.nodes.specs.Tables.{limitsIn};
-ghost use Rattle.nodes.specs.Words.{nodeIn};
+ghost use Rattle.nodes.specs.RowNodes.{nodeIn};
 
 // Whether a node is out of the picture at the right, and at the bottom.
 pub fn right_out_at(u: &Table, row: u64) -> bool

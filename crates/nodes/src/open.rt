@@ -10,7 +10,7 @@ use tree::BV;
 use tree::QT;
 ghost use mathlib.Core.Path.{_≡_};
 ghost use Prim.Native.Nat.{_≤_};
-ghost use Rattle.nodes.specs.Words.{innerIn, edgeCut, outIn};
+ghost use Rattle.nodes.specs.RowNodes.{innerIn, edgeCut, outIn};
 
 // Inside the picture: of these splits, those that the masks leave.
 pub fn inner_splits(u: &Table, row: u64, splits: u32) -> u32

@@ -35,7 +35,7 @@ pub fn place(c: u64) -> usize
 }
 
 pub fn count(c: u64) -> usize
-    ensures { λ r. ⌜ (r ≡ State.countOf c) × (r < 4294967296) ⌝ }
+    ensures { λ r. ⌜ (r ≡ State.givenOf c) × (r < 4294967296) ⌝ }
 {
     (c / COUNT) as usize
 }

@@ -28,7 +28,7 @@ use Rattle.laws.proofs.Steps.{isSplit}
 use Rattle.laws.proofs.Tests.{never}
 use Rattle.nodes.specs.State.{placeOf}
 use Rattle.nodes.specs.Tables.{limitsIn}
-use Rattle.nodes.specs.Words.{nodeIn, outIn}
+use Rattle.nodes.specs.RowNodes.{nodeIn, outIn}
 use Rattle.walks.specs.Stands.{word, Inside, Outer}
 use Rattle.walks.proofs.Open.{inside-rights, out-rights, out-one-cut}
 use Rattle.walks.proofs.AtEdge.{corner-is, right-is, bottom-is, out-is}

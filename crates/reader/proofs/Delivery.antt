@@ -15,13 +15,13 @@ use Rattle.tree.specs.Rows.{Row, tableBytes}
 use Rattle.tree.specs.Run.{Run, End, goes, stops}
 use Rattle.tree.specs.Splits.{Rights, bit, openSplits}
 use Rattle.tree.specs.Flags.{someOpen, flagAt, afterSplit, decide}
-use Rattle.blocks.specs.Words.{wordsBytes}
-use Rattle.blocks.proofs.Words.{word-bytes}
+use Rattle.blocks.specs.RowNumbers.{wordsBytes}
+use Rattle.blocks.proofs.RowNumbers.{word-bytes}
 use Rattle.unit.specs.declared.Answer.the-variants.{Accepted}
 use Rattle.unit.specs.Answers.{refused, deliver, finishEnd, finish}
 use Rattle.unit.specs.Reader.{noneAfter}
 use Rattle.unit.proofs.Parsed.{table-length}
-use Rattle.nodes.specs.State.{placeOf, countOf, refusal, refusalNumber, refusalPlace}
+use Rattle.nodes.specs.State.{placeOf, givenOf, refusal, refusalNumber, refusalPlace}
 use Rattle.walks.specs.Walks.{Says, Done}
 use Rattle.reader.specs.Walking.{rowWords, readWay}
 use Rattle.reader.specs.Delivery.{leafFirst, deliverAll}
@@ -41,25 +41,25 @@ module _ (flags : List ℕ) (run : Run Row ℕ) {b z : List ℕ} {answer : ℕ} 
   said-from end e = subst (λ x. Says (readWay flags) answer (length (run .given)) x) e (subst (λ (i : ℕ). Says (readWay flags) answer i (run .end)) (omega arith) (done .said))
 
   -- the rows so far, where the walk was not refused
-  pub count-small : answer < 9223372036854775808 → countOf answer ≤ 1024
+  pub count-small : answer < 9223372036854775808 → givenOf answer ≤ 1024
   unfolding Says
   count-small h = go (run .end) refl
     where
-      go : (end : End ℕ) → run .end ≡ end → countOf answer ≤ 1024
+      go : (end : End ℕ) → run .end ≡ end → givenOf answer ≤ 1024
       go (goes at) e = let s = said-from (goes at) e .0 in omega arith
       go (stops k p) e = let s = said-from (stops k p) e in absurd (omega arith)
 
   -- the rows are the front of the scratch table
   front : wordsBytes (take (length (run .given)) z) ≡ tableBytes (run .given)
   front =
-      let i : length (run .given) ≡ countOf 0 + length (run .given) = omega arith in
+      let i : length (run .given) ≡ givenOf 0 + length (run .given) = omega arith in
       ap (λ (n : ℕ). wordsBytes (take n z)) i ∙ ap wordsBytes (done .given) ∙ rows-bytes (run .given)
 
 -- ---- delivery, over plain values
 
 module _ (flags b : List ℕ) (answer : ℕ) (z : List ℕ) where
   -- a walk that goes on from a place after so many rows
-  went : (at count : ℕ) → (countOf answer ≡ count) × (placeOf answer ≡ at) → count ≤ 1024 → (bytes : List ℕ) → length bytes ≡ count * 8 → wordsBytes (take count z) ≡ bytes
+  went : (at count : ℕ) → (givenOf answer ≡ count) × (placeOf answer ≡ at) → count ≤ 1024 → (bytes : List ℕ) → length bytes ≡ count * 8 → wordsBytes (take count z) ≡ bytes
       → deliverAll answer z flags b ≡ finishEnd 14 count bytes (noneAfter flags (goes at)) b
   unfolding deliverAll finishEnd noneAfter deliver
   went at count is few bytes l e = rw (lt-ltb answer 9223372036854775808 (let c = is .0 in omega arith), is .0, is .1) (go (ltb at (length flags)) refl)

@@ -11,15 +11,15 @@ use borrow.Author.Tests.{lt-ltb, le-ltb, ltb-true, leb-true, leb-false}
 use denote.Enum
 use Rattle.tree.specs.declared.Node.{Node}
 use Rattle.tree.specs.Rows.{rowOf, rowBytes, tableBytes}
-use Rattle.blocks.specs.Words.{rowWord, wordBytes, wordsBytes, putWord, Put}
-use Rattle.blocks.proofs.Words.{word-bytes}
+use Rattle.blocks.specs.RowNumbers.{rowWord, wordBytes, wordsBytes, putWord, Put}
+use Rattle.blocks.proofs.RowNumbers.{word-bytes}
 use Rattle.unit.specs.declared.Answer.the-variants.{Accepted, Refused}
 use Rattle.unit.specs.Answers.{Meets, deliver, finishEnd}
 use Rattle.unit.specs.Reader.{noneAfter}
 use Rattle.nodes.specs.declared.state.Child.{Child}
 use Rattle.nodes.specs.declared.state.Child.the-variants as child
 use Rattle.nodes.proofs.state.Child as C
-use Rattle.nodes.specs.State.{placeOf, countOf, refusalNumber, refusalPlace}
+use Rattle.nodes.specs.State.{placeOf, givenOf, refusalNumber, refusalPlace}
 use Rattle.reader.specs.Delivery.{deliverOne, deliverAll}
 
 -- ---- a root that is a leaf
@@ -81,11 +81,11 @@ module _ (answer : ℕ) (w : Child) (apart : w ≡ cond (ltb answer 922337203685
       unfolding deliverAll
       all-more h = rw (read-is .0, at-place, lt-ltb _ _ h) (record { answers = refl; leaves = refl })
 
-      module _ (all : length flags ≤ at) (n : ℕ) (n-is : n ≡ countOf end) where
-        n-count : countOf answer ≡ n
-        n-count = sym (n-is ∙ ap (λ c. countOf c) (read-is .1))
+      module _ (all : length flags ≤ at) (n : ℕ) (n-is : n ≡ givenOf end) where
+        n-count : givenOf answer ≡ n
+        n-count = sym (n-is ∙ ap (λ c. givenOf c) (read-is .1))
 
-        pub all-few : (answer < 9223372036854775808 → countOf answer ≤ 1024) → n ≤ 1024
+        pub all-few : (answer < 9223372036854775808 → givenOf answer ≤ 1024) → n ≤ 1024
         all-few few = subst (λ (i : ℕ). i ≤ 1024) n-count (few (ltb-true _ _ (read-is .0)))
 
         pub all-short : length b < n * 8 → Meets (deliverAll answer scratch flags b) (Refused 14 n) b

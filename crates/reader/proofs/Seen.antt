@@ -18,12 +18,12 @@ use Rattle.tree.specs.Flags.{decide}
 use Rattle.tree.specs.Children.{cornerInside}
 use Rattle.tree.specs.Rows.{rowOf}
 use Rattle.tree.specs.Run.{before}
-use Rattle.blocks.specs.Words.{rowWord}
+use Rattle.blocks.specs.RowNumbers.{rowWord}
 use Rattle.laws.specs.Areas.{areasOf}
 use Rattle.laws.proofs.Areas.{least-area}
 use Rattle.laws.proofs.Near.{decide-near, refused-near}
 use Rattle.laws.proofs.Steps.{isSplit, split-allowed, reading-refused, reading-leaf, reading-split}
-use Rattle.nodes.specs.State.{refusal, placeOf, countOf}
+use Rattle.nodes.specs.State.{refusal, placeOf, givenOf}
 use Rattle.walks.specs.Stands.{Word, Placed}
 use Rattle.walks.specs.Walks.{walkOver, Done, Asked, Walked}
 use Rattle.walks.proofs.One.{Case, some-case, each-case, nothing-stored, one-refused, one-done}
@@ -48,7 +48,7 @@ pub record Sees (stands : Kind → Node → Word → Type 0) (u flags : List ℕ
 moved-is : (p q m next : ℕ) → p < 4294967296 → q < 1024 → next ≤ 4096 → m < 2 ^ 64 → (m + p) % 2 ^ 64 ≡ (q * 4294967296 + p + next) % 2 ^ 64 → m ≡ q * 4294967296 + next
 moved-is p q m next a b c d e = omega arith
 
-moved-place : (q next m : ℕ) → next ≤ 4096 → m ≡ q * 4294967296 + next → (placeOf m ≡ next) × (countOf m ≡ q)
+moved-place : (q next m : ℕ) → next ≤ 4096 → m ≡ q * 4294967296 + next → (placeOf m ≡ next) × (givenOf m ≡ q)
 moved-place q next m a e = (omega arith, omega arith)
 
 -- ---- what the code knows
@@ -68,7 +68,7 @@ module _ (flags : List ℕ) {stands : Kind → Node → Word → Type 0} {u : Li
       (one-refused (readWay flags) none-stored k n s c b (y .here) (reading-refused k flags n (shallow (y .placed)) s (y .decides))))
 
   module _ {d : Decision} {next : ℕ} (sees : Sees stands u flags c w (Chosen d next)) where
-    few : (k : Kind) (n : Node) (s : ℕ) → Case (readWay flags) stands u c w k n s → (countOf c < 1024) × (placeOf c ≤ next) × (next ≤ placeOf c + 4) × (placeOf c ≤ 4092)
+    few : (k : Kind) (n : Node) (s : ℕ) → Case (readWay flags) stands u c w k n s → (givenOf c < 1024) × (placeOf c ≤ next) × (next ≤ placeOf c + 4) × (placeOf c ≤ 4092)
     unfolding areasOf
     few k n s x =
         let y = at-case sees x in
@@ -80,23 +80,23 @@ module _ (flags : List ℕ) {stands : Kind → Node → Word → Type 0} {u : Li
         omega arith
 
     -- there is room for its row
-    pub row-fits : Asked (readWay flags) stands u c (w ∷ []) → countOf c < 1024
+    pub row-fits : Asked (readWay flags) stands u c (w ∷ []) → givenOf c < 1024
     row-fits a = some-case (readWay flags) stands u c w a few .0
 
     -- the state after its flags
-    pub moves : Asked (readWay flags) stands u c (w ∷ []) → {m : ℕ} → (m + placeOf c) % 2 ^ 64 ≡ (c + next) % 2 ^ 64 → m < 2 ^ 64 → (placeOf m ≡ next) × (countOf m ≡ countOf c)
+    pub moves : Asked (readWay flags) stands u c (w ∷ []) → {m : ℕ} → (m + placeOf c) % 2 ^ 64 ≡ (c + next) % 2 ^ 64 → m < 2 ^ 64 → (placeOf m ≡ next) × (givenOf m ≡ givenOf c)
     moves a {m} e h =
         let f = some-case (readWay flags) stands u c w a few in
-        let i : c + next ≡ countOf c * 4294967296 + placeOf c + next = omega arith in
-        moved-place (countOf c) next m (omega arith) (moved-is (placeOf c) (countOf c) m next (omega arith) (omega arith) (omega arith) h (e ∙ ap (λ (i : ℕ). i % 2 ^ 64) i))
+        let i : c + next ≡ givenOf c * 4294967296 + placeOf c + next = omega arith in
+        moved-place (givenOf c) next m (omega arith) (moved-is (placeOf c) (givenOf c) m next (omega arith) (omega arith) (omega arith) h (e ∙ ap (λ (i : ℕ). i % 2 ^ 64) i))
 
   -- the state after one flag
-  pub moves-one : {d : Decision} → Sees stands u flags c w (Chosen d (placeOf c + 1)) → Asked (readWay flags) stands u c (w ∷ []) → {m : ℕ} → m ≡ (c + 1) % 2 ^ 64 → (placeOf m ≡ placeOf c + 1) × (countOf m ≡ countOf c)
+  pub moves-one : {d : Decision} → Sees stands u flags c w (Chosen d (placeOf c + 1)) → Asked (readWay flags) stands u c (w ∷ []) → {m : ℕ} → m ≡ (c + 1) % 2 ^ 64 → (placeOf m ≡ placeOf c + 1) × (givenOf m ≡ givenOf c)
   moves-one sees a e = let f = some-case (readWay flags) stands u c w a (few sees) in (omega arith, omega arith)
 
   -- a leaf: the state after its flags is m
-  pub walked-leaf : {next : ℕ} → Sees stands u flags c w (Chosen Leaf next) → {b : List ℕ} → length b ≡ 1024 → (m : ℕ) {r : ℕ} {z : List ℕ} → (placeOf m ≡ next) × (countOf m ≡ countOf c)
-      → (r ≡ (m + 4294967296) % 2 ^ 64) × (z ≡ set b (countOf m) (w .row)) → Walked (readWay flags) stands u c (w ∷ []) b r z
+  pub walked-leaf : {next : ℕ} → Sees stands u flags c w (Chosen Leaf next) → {b : List ℕ} → length b ≡ 1024 → (m : ℕ) {r : ℕ} {z : List ℕ} → (placeOf m ≡ next) × (givenOf m ≡ givenOf c)
+      → (r ≡ (m + 4294967296) % 2 ^ 64) × (z ≡ set b (givenOf m) (w .row)) → Walked (readWay flags) stands u c (w ∷ []) b r z
   unfolding rowWords
   walked-leaf sees {b} len m {r} {z} on stores = each-case (readWay flags) stands u c w (λ k n s x.
       let y = at-case sees x in
@@ -104,13 +104,13 @@ module _ (flags : List ℕ) {stands : Kind → Node → Word → Type 0} {u : Li
       let at = on .0 in
       let count = on .1 in
       let e = stores .0 in
-      let one : countOf c + 1 ≡ suc (countOf c) = omega arith in
-      let g : z ≡ set b (countOf c) (rowWord (rowOf n)) = stores .1 ∙ rw (count, y .says) in
+      let one : givenOf c + 1 ≡ suc (givenOf c) = omega arith in
+      let g : z ≡ set b (givenOf c) (rowWord (rowOf n)) = stores .1 ∙ rw (count, y .says) in
       one-done (readWay flags) none-stored k n s c b (y .here) (reading-leaf k flags n (shallow (y .placed)) s (y .decides)) (omega arith) (omega arith)
-      (record { long = rw g (length-set b (countOf c) _); first = rw (g, one) (take-suc-set b (countOf c) _ (omega arith)) }))
+      (record { long = rw g (length-set b (givenOf c) _); first = rw (g, one) (take-suc-set b (givenOf c) _ (omega arith)) }))
 
   -- a split: the state after its flags is m
-  pub turned : {d : Decision} {next : ℕ} → Sees stands u flags c w (Chosen d next) → isSplit d ≡ true → {m : ℕ} → (placeOf m ≡ next) × (countOf m ≡ countOf c)
+  pub turned : {d : Decision} {next : ℕ} → Sees stands u flags c w (Chosen d next) → isSplit d ≡ true → {m : ℕ} → (placeOf m ≡ next) × (givenOf m ≡ givenOf c)
       → {b : List ℕ} (k : Kind) (n : Node) (s : ℕ) → Case (readWay flags) stands u c w k n s → Turn (readWay flags) c d b m b k n s
   unfolding before
   turned {d} {next} sees split {m} on {b} k n s x =

@@ -7,7 +7,7 @@ use Rattle.tree.specs.declared.Node.{Node}
 use Rattle.tree.specs.Kind.{Kind}
 use Rattle.tree.specs.Rows.{Row}
 use Rattle.tree.specs.Run.{overAll}
-use Rattle.blocks.specs.Words.{rowWord}
+use Rattle.blocks.specs.RowNumbers.{rowWord}
 use Rattle.laws.specs.Areas.{areasOf, spareOf}
 use Rattle.laws.specs.Proper.{Proper}
 use Rattle.laws.proofs.Areas.{least-area}

@@ -23,11 +23,11 @@ use Rattle.laws.proofs.Steps.{reading-leaf}
 use Rattle.unit.specs.declared.Answer.{Answer}
 use Rattle.unit.specs.Answers.{Meets, finish}
 use Rattle.unit.specs.Reader.{noneAfter, rowsFrom, readTree}
-use Rattle.nodes.specs.State.{countOf, refusal}
+use Rattle.nodes.specs.State.{givenOf, refusal}
 use Rattle.walks.specs.Rooted.{Rooted}
 use Rattle.walks.specs.Walks.{Says, Done}
 use Rattle.reader.specs.Walking.{readWay, zeroNext}
-use Rattle.reader.specs.Delivery.{leafFirst, leafFlags, deliverOne, deliverAll}
+use Rattle.reader.specs.Delivery.{leafFirst, leafCount, deliverOne, deliverAll}
 use Rattle.reader.proofs.Decided.{none-open}
 use Rattle.reader.proofs.Delivery.{count-small, all-is, leaf-is}
 
@@ -56,7 +56,7 @@ module _ {k : Kind} {root : Node} (r : Rooted k root) (flags : List ℕ) {b z : 
       let q = reading-bound (r .proper) (r .placed .good) (r .placed .sum) (r .here) flags 0 .rows in
       omega arith
 
-  pub root-count : answer < 9223372036854775808 → countOf answer ≤ 1024
+  pub root-count : answer < 9223372036854775808 → givenOf answer ≤ 1024
   root-count = count-small flags (readNode k flags root 0) done few
 
   -- it is the reading of the tree
@@ -69,14 +69,14 @@ module _ {k : Kind} {root : Node} (r : Rooted k root) (flags : List ℕ) {b z : 
       subst (λ o. Meets o said left)
       (all-is flags (readNode k flags root 0) done few
       (λ number place h.
-      let e : answer ≡ refusal number place = subst (λ x. Says (readWay flags) answer (countOf 0 + length (readNode k flags root 0 .given)) x) h (done .said) in
+      let e : answer ≡ refusal number place = subst (λ x. Says (readWay flags) answer (givenOf 0 + length (readNode k flags root 0 .given)) x) h (done .said) in
       (small-refusal number (subst Fine h fine), omega arith))
       buffer) m
 
 -- ---- a root that is a leaf
 
 module _ {k : Kind} {root : Node} (r : Rooted k root) (flags : List ℕ) {out : Bool} (o : out ≡ isOut (k .limits) root) (splits : ℕ) where
-  pub leaf-delivered : eqb splits 0 ≡ eqb (openSplits (rightsOf k root)) 0 → leafFirst out splits flags ≡ true → {next : ℕ} → next ≡ leafFlags splits → (buffer : List ℕ) {said : Answer} {left : List ℕ}
+  pub leaf-delivered : eqb splits 0 ≡ eqb (openSplits (rightsOf k root)) 0 → leafFirst out splits flags ≡ true → {next : ℕ} → next ≡ leafCount splits → (buffer : List ℕ) {said : Answer} {left : List ℕ}
       → Meets (deliverOne root next flags buffer) said left → Meets (readTree k root flags buffer) said left
   unfolding readTree rowsFrom rightsOf
   leaf-delivered is h i buffer {said} {left} m =

@@ -8,19 +8,19 @@ use Rattle.tree.specs.declared.Node.{Node}
 use Rattle.tree.specs.Splits.{bit}
 use Rattle.tree.specs.Rows.{rowOf, tableBytes}
 use Rattle.tree.specs.Run.{goes}
-use Rattle.blocks.specs.Words.{wordsBytes}
+use Rattle.blocks.specs.RowNumbers.{wordsBytes}
 use Rattle.unit.specs.declared.Answer.the-variants.{Accepted}
 use Rattle.unit.specs.Answers.{Outcome, refused, finish}
 use Rattle.unit.specs.Reader.{noneAfter}
-use Rattle.nodes.specs.State.{placeOf, countOf, refusalNumber, refusalPlace}
+use Rattle.nodes.specs.State.{placeOf, givenOf, refusalNumber, refusalPlace}
 
 -- the first flag, or the lack of an open split, makes the root a leaf: it lies inside the picture, and its split flag is absent or 0
 abbrev pub leafFirst : Bool → ℕ → List ℕ → Bool
 leafFirst out splits flags = not out && (eqb splits 0 || (ltb 0 (length flags) && eqb (getD flags 0 0) 0))
 
 -- the flags that a leaf has: its split flag, where some split is open
-abbrev pub leafFlags : ℕ → ℕ
-leafFlags splits = bit (not (eqb splits 0)) 1
+abbrev pub leafCount : ℕ → ℕ
+leafCount splits = bit (not (eqb splits 0)) 1
 
 -- the row of a root that is a leaf
 abbrev pub deliverOne : Node → ℕ → List ℕ → List ℕ → Outcome
@@ -31,6 +31,6 @@ unfoldable pub deliverAll : ℕ → List ℕ → List ℕ → List ℕ → Outco
 deliverAll answer scratch flags buffer =
     cond (ltb answer 9223372036854775808)
     (cond (ltb (placeOf answer) (length flags)) (refused 13 (placeOf answer) buffer)
-    (cond (ltb (length buffer) (countOf answer * 8)) (refused 14 (countOf answer) buffer)
-    (record { answer = Accepted (countOf answer); buffer = wordsBytes (take (countOf answer) scratch) ++ drop (countOf answer * 8) buffer })))
+    (cond (ltb (length buffer) (givenOf answer * 8)) (refused 14 (givenOf answer) buffer)
+    (record { answer = Accepted (givenOf answer); buffer = wordsBytes (take (givenOf answer) scratch) ++ drop (givenOf answer * 8) buffer })))
     (refused (refusalNumber answer) (refusalPlace answer) buffer)

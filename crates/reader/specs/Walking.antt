@@ -7,7 +7,7 @@ use lib.ListN.{length, getD}
 use lib.Dec.{ltb, eqb}
 use Rattle.tree.specs.Rows.{Row}
 use Rattle.tree.specs.Reading.{readNode}
-use Rattle.blocks.specs.Words.{rowWord}
+use Rattle.blocks.specs.RowNumbers.{rowWord}
 use Rattle.nodes.specs.State.{placeOf}
 use Rattle.walks.specs.Walks.{Way}
 

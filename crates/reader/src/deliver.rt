@@ -6,8 +6,8 @@ use unit::Answer;
 ghost use mathlib.Core.Path.{_≡_};
 ghost use Prim.Native.Nat.{_≤_, _<_};
 ghost use Rattle.unit.specs.Answers.{Meets};
-ghost use Rattle.nodes.specs.State.{countOf};
-ghost use Rattle.reader.specs.Delivery.{leafFirst, leafFlags, deliverOne, deliverAll};
+ghost use Rattle.nodes.specs.State.{givenOf};
+ghost use Rattle.reader.specs.Delivery.{leafFirst, leafCount, deliverOne, deliverAll};
 
 // Whether the first flag, or the lack of an open split, makes a root a leaf.
 pub(crate) fn is_leaf(out: bool, splits: u32, flags: &[u8]) -> bool
@@ -27,8 +27,8 @@ pub(crate) fn is_leaf(out: bool, splits: u32, flags: &[u8]) -> bool
 }
 
 // The flags that a leaf has, 1 where some split is open.
-pub(crate) fn leaf_flags(splits: u32) -> usize
-    ensures { λ r. ⌜ r ≡ leafFlags splits ⌝ }
+pub(crate) fn leaf_count(splits: u32) -> usize
+    ensures { λ r. ⌜ r ≡ leafCount splits ⌝ }
 {
     if splits == 0 { 0 } else { 1 }
 }
@@ -49,7 +49,7 @@ pub(crate) fn one_row(root: Node, next: usize, flags: &[u8], rows: &mut [u8]) ->
 
 // The reading that a walk answered, its rows in a scratch table.
 pub(crate) fn all_rows(answer: u64, scratch: &Scratch, flags: &[u8], rows: &mut [u8]) -> Answer
-    requires { ⌜ (answer < 9223372036854775808 → countOf answer ≤ 1024) ⌝ }
+    requires { ⌜ (answer < 9223372036854775808 → givenOf answer ≤ 1024) ⌝ }
     ensures { λ r. ⌜ Meets (deliverAll answer (now (scratch .entry)) (now (flags .entry)) (now (rows .entry))) r (now (rows .exit)) ⌝ }
 {
     let Child::Walked(end) = nodes::child_answer(answer) else {

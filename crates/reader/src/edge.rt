@@ -13,7 +13,7 @@ ghost use lib.ListN.{length};
 ghost use Rattle.tree.specs.Splits.{isOut};
 ghost use Rattle.tree.specs.Children.{cornerInside};
 ghost use Rattle.nodes.specs.Tables.{limitsIn};
-ghost use Rattle.nodes.specs.Words.{nodeIn};
+ghost use Rattle.nodes.specs.RowNodes.{nodeIn};
 ghost use Rattle.walks.specs.Stands.{word, Outer};
 ghost use Rattle.walks.specs.Kids.{fourWords, outerKids};
 ghost use Rattle.walks.specs.Walks.{Asked, Walked};

@@ -12,7 +12,7 @@ ghost use mathlib.Core.Bool.{false};
 ghost use mathlib.Core.List.{[], _∷_};
 ghost use Prim.Native.Nat.{_+_, _<_, _^_, _%_};
 ghost use lib.ListN.{length, set};
-ghost use Rattle.nodes.specs.State.{countOf};
+ghost use Rattle.nodes.specs.State.{givenOf};
 ghost use Rattle.walks.specs.Stands.{word, Inside};
 ghost use Rattle.tree.specs.declared.Decision.the-variants.{Quad, Binary, Ternary};
 ghost use Rattle.walks.specs.Kids.{innerKids};
@@ -33,8 +33,8 @@ fn zero_next(flags: &[u8], c: u64) -> bool
 
 // A leaf, after its flags.
 fn leaf(rows: &mut Scratch, c: u64, row: u64) -> u64
-    requires { ⌜ countOf c < 1024 ⌝ }
-    ensures { λ r. ⌜ (r ≡ (c + 4294967296) % 2 ^ 64) × (now (rows .exit) ≡ set (now (rows .entry)) (countOf c) row) ⌝ }
+    requires { ⌜ givenOf c < 1024 ⌝ }
+    ensures { λ r. ⌜ (r ≡ (c + 4294967296) % 2 ^ 64) × (now (rows .exit) ≡ set (now (rows .entry)) (givenOf c) row) ⌝ }
 {
     rows[nodes::count(c)] = row;
     nodes::one_more(c)

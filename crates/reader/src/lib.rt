@@ -59,7 +59,7 @@ fn read_tree(l: Limits, root: Node, flags: &[u8], rows: &mut [u8]) -> Answer
     }
     let splits = splits::open_splits(l, root);
     if deliver::is_leaf(out, splits, flags) {
-        return deliver::one_row(root, deliver::leaf_flags(splits), flags, rows);
+        return deliver::one_row(root, deliver::leaf_count(splits), flags, rows);
     }
     let u = nodes::luma_table(l);
     read_all(&u, blocks::row_word(root), out, splits, flags, rows)

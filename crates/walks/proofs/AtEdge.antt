@@ -8,7 +8,7 @@ use Rattle.tree.specs.Kind.{Kind}
 use Rattle.tree.specs.Splits.{rightOut, bottomOut, isOut}
 use Rattle.tree.specs.Children.{cornerInside}
 use Rattle.nodes.specs.Tables.{tableOf, limitsIn}
-use Rattle.nodes.specs.Words.{nodeIn, boundIn, innerIn, outIn}
+use Rattle.nodes.specs.RowNodes.{nodeIn, boundIn, innerIn, outIn}
 use Rattle.walks.specs.Stands.{word, Inside, Outer, no-more, one-more}
 use Rattle.walks.specs.Walks.{Way, Ready, Asked, Walked}
 use Rattle.walks.proofs.One.{Case, some-case, each-case, one-gone}

@@ -17,10 +17,10 @@ use Rattle.tree.specs.Splits.{pick, bit, sameDirection, outAlong, closedMiddle,
 use Rattle.tree.specs.Children.{childMtt, childOffset, child}
 use Rattle.tree.specs.Rows.{rowOf}
 use Rattle.blocks.specs.Table.{shareAt}
-use Rattle.blocks.specs.Words.{rowWord}
+use Rattle.blocks.specs.RowNumbers.{rowWord}
 use Rattle.laws.proofs.Multiples.{fold-least}
 use Rattle.nodes.specs.Tables.{tableOf}
-use Rattle.nodes.specs.Words.{nodeIn, cutsOf, depthAbove, depthBelow}
+use Rattle.nodes.specs.RowNodes.{nodeIn, cutsOf, depthAbove, depthBelow}
 use Rattle.walks.specs.Stands.{word, keeps, Placed, Outer}
 use Rattle.walks.proofs.Sides.{exponent-of}
 use Rattle.walks.proofs.RowFields.{fits, row-packed, row-says, offset-says}

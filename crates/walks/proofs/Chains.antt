@@ -10,13 +10,13 @@ use Rattle.tree.specs.Kind.{Kind}
 use Rattle.tree.specs.Children.{cornerInside}
 use Rattle.tree.specs.Run.{End, goes, stops, before, goOn, andThen, overAll}
 use Rattle.laws.proofs.Runs.{over-here, over-gone, over-one}
-use Rattle.nodes.specs.State.{placeOf, countOf}
+use Rattle.nodes.specs.State.{placeOf, givenOf}
 use Rattle.walks.specs.Walks.{Way, RoomAt, walkOver, Says, Done}
 use Rattle.walks.proofs.Lawful.{Step, Lawful}
 
 module _ {A S : Type 0} (way : Way A S) where
   -- a number below 2 ^ 63 says that the run goes on
-  pub goes-on : (r count : ℕ) (e : End S) → Says way r count e → r < 9223372036854775808 → (s : S) × (e ≡ goes s) × (countOf r ≡ count) × way .at (placeOf r) s
+  pub goes-on : (r count : ℕ) (e : End S) → Says way r count e → r < 9223372036854775808 → (s : S) × (e ≡ goes s) × (givenOf r ≡ count) × way .at (placeOf r) s
   unfolding Says
   goes-on r count (goes s) h lt = (s, refl, h .0, h .1)
   goes-on r count (stops k p) h lt = absurd (omega arith)
@@ -35,17 +35,17 @@ module _ {A S : Type 0} (way : Way A S) where
         go true e = rw (over-one k (λ n t. way .go k n t) n s e) (over-here k (λ n t. way .go k n t) n ns s e)
         go false e = rw (over-gone k (λ n t. way .go k n t) n [] s e) (over-gone k (λ n t. way .go k n t) n ns s e)
 
-    module _ (lawful : Lawful way) (c : ℕ) (step : Step way ns (countOf c) (walkOver way k (n ∷ []) s)) (b m : List ℕ) (r : ℕ) (first : Done way (walkOver way k (n ∷ []) s) c b r m) where
+    module _ (lawful : Lawful way) (c : ℕ) (step : Step way ns (givenOf c) (walkOver way k (n ∷ []) s)) (b m : List ℕ) (r : ℕ) (first : Done way (walkOver way k (n ∷ []) s) c b r m) where
       -- the first node was walked: where it ended
-      module _ (t : S) (e : walkOver way k (n ∷ []) s .end ≡ goes t) (count : countOf r ≡ countOf c + length one) (at : way .at (placeOf r) t) where
-        pub room-rest : RoomAt way (placeOf r) (countOf r) ns
+      module _ (t : S) (e : walkOver way k (n ∷ []) s .end ≡ goes t) (count : givenOf r ≡ givenOf c + length one) (at : way .at (placeOf r) t) where
+        pub room-rest : RoomAt way (placeOf r) (givenOf r) ns
         room-rest = rw count (step .room (placeOf r) t e at)
 
         both-run : walkOver way k (n ∷ ns) s ≡ before one (walkOver way k ns t)
         unfolding goOn
         both-run = first-then ∙ ap (λ end. goOn one end (λ t. walkOver way k ns t)) e
 
-        longer : countOf r + length (walkOver way k ns t .given) ≡ countOf c + length (one ++ walkOver way k ns t .given)
+        longer : givenOf r + length (walkOver way k ns t .given) ≡ givenOf c + length (one ++ walkOver way k ns t .given)
         longer = let e = length-append one (walkOver way k ns t .given) in omega arith
 
         pub done-rest : (z : List ℕ) (r′ : ℕ) → Done way (walkOver way k ns t) r m r′ z → Done way (walkOver way k (n ∷ ns) s) c b r′ z
@@ -59,8 +59,8 @@ module _ {A S : Type 0} (way : Way A S) where
                   ap (λ (i : ℕ). take i z) (sym longer) ∙ rest .given
                   ∙ ap (λ (i : ℕ). take i m ++ way .stored more) count
                   ∙ ap (λ x. x ++ way .stored more) (first .given)
-                  ∙ append-assoc (take (countOf c) b) (way .stored one) (way .stored more)
-                  ∙ ap (λ x. take (countOf c) b ++ x) (sym (lawful .join one more));
+                  ∙ append-assoc (take (givenOf c) b) (way .stored one) (way .stored more)
+                  ∙ ap (λ x. take (givenOf c) b ++ x) (sym (lawful .join one more));
             })
 
       -- the first node was refused: so are all
@@ -69,7 +69,7 @@ module _ {A S : Type 0} (way : Way A S) where
       done-stop h = go (walkOver way k (n ∷ []) s .end) refl
         where
           go : (end : End S) → walkOver way k (n ∷ []) s .end ≡ end → Done way (walkOver way k (n ∷ ns) s) c b r m
-          go (goes t) e = let a = subst (λ x. Says way r (countOf c + length one) x) e (first .said) .0 in let q = step .small in absurd (omega arith)
+          go (goes t) e = let a = subst (λ x. Says way r (givenOf c + length one) x) e (first .said) .0 in let q = step .small in absurd (omega arith)
           go (stops j p) e =
               rw (first-then, e)
-              (record { said = subst (λ x. Says way r (countOf c + length one) x) e (first .said); long = first .long; given = first .given })
+              (record { said = subst (λ x. Says way r (givenOf c + length one) x) e (first .said); long = first .long; given = first .given })

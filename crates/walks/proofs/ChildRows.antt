@@ -14,9 +14,9 @@ use Rattle.tree.specs.declared.Direction.the-variants.{Horizontal, Vertical}
 use Rattle.tree.specs.Children.{childQt, childMtt, child}
 use Rattle.tree.specs.Rows.{rowOf}
 use Rattle.blocks.specs.Table.{shareAt}
-use Rattle.blocks.specs.Words.{rowWord}
+use Rattle.blocks.specs.RowNumbers.{rowWord}
 use Rattle.laws.proofs.Parts.{Piece, no-piece, slice}
-use Rattle.nodes.specs.Words.{nodeIn, fall, deeper, stepTo, childRow}
+use Rattle.nodes.specs.RowNodes.{nodeIn, fall, deeper, stepTo, childRow}
 use Rattle.walks.specs.Stands.{Placed}
 use Rattle.walks.proofs.Sides.{one-least, exponent-of, exponent-falls}
 use Rattle.walks.proofs.RowFields.{packed, Fits, row-packed, fits, width-says, height-says}

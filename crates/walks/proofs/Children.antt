@@ -19,7 +19,7 @@ use Rattle.tree.specs.Splits.{along, inside, rightOut, bottomOut, outAlong, rig
 use Rattle.tree.specs.Children.{shares, childMtt, childOffset, child, childrenFrom, children, cornerInside}
 use Rattle.tree.specs.Rows.{rowOf}
 use Rattle.blocks.specs.Table.{shareAt}
-use Rattle.blocks.specs.Words.{rowWord}
+use Rattle.blocks.specs.RowNumbers.{rowWord}
 use Rattle.laws.specs.Directions.{corner, extent}
 use Rattle.laws.specs.Proper.{Proper}
 use Rattle.laws.specs.Shape.{Shape}
@@ -33,7 +33,7 @@ use Rattle.laws.proofs.Picture.{inside-end, cut-out}
 use Rattle.laws.proofs.Shape.{side-four}
 use Rattle.laws.proofs.Tests.{bit-most}
 use Rattle.nodes.specs.Tables.{tableOf}
-use Rattle.nodes.specs.Words.{innerIn, childRow, openBelow}
+use Rattle.nodes.specs.RowNodes.{innerIn, childRow, openBelow}
 use Rattle.walks.specs.Stands.{Word, word, keeps, Placed, Outer, Inside, AllStand, no-more, one-more}
 use Rattle.walks.specs.Kids.{innerKids, outerKids}
 use Rattle.walks.proofs.RowFields.{fits, row-says}

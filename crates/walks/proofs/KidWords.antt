@@ -5,7 +5,7 @@ use mathlib.Core.List.{List, [], _∷_}
 use Rattle.tree.specs.declared.Direction.{Direction}
 use Rattle.tree.specs.declared.Decision.{Decision}
 use Rattle.tree.specs.declared.Decision.the-variants.{Leaf, Quad, Binary, Ternary}
-use Rattle.nodes.specs.Words.{childRow, depthAbove, depthBelow}
+use Rattle.nodes.specs.RowNodes.{childRow, depthAbove, depthBelow}
 use Rattle.walks.specs.Stands.{word}
 use Rattle.walks.specs.Kids.{fourWords, outerKids}
 

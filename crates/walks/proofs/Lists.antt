@@ -8,7 +8,7 @@ use Rattle.tree.specs.declared.Node.{Node}
 use Rattle.tree.specs.Kind.{Kind}
 use Rattle.tree.specs.Run.{goes, overAll}
 use Rattle.laws.specs.Areas.{areasOf, spareOf}
-use Rattle.nodes.specs.State.{placeOf, countOf}
+use Rattle.nodes.specs.State.{placeOf, givenOf}
 use Rattle.walks.specs.Stands.{Word, Placed, AllStand, no-more, one-more}
 use Rattle.walks.specs.Walks.{Way, Room, walkOver, Says, Done, Ready, Asked, Walked}
 use Rattle.walks.proofs.Lawful.{Step, Lawful}
@@ -30,7 +30,7 @@ module _ {A S : Type 0} (way : Way A S) (stands : Kind → Node → Word → Typ
   none-walked u c b f = record { done = λ k ns s ready. go k ns s (ready .placed) (ready .stand) }
     where
       go : (k : Kind) (ns : List Node) (s : S) → way .at (placeOf c) s → AllStand (stands k) ns [] → Done way (walkOver way k ns s) c b c b
-      go k [] s e no-more = record { said = (omega arith, e); long = refl; given = let i : countOf c + 0 ≡ countOf c = omega arith in rw (f, i, append-nil) }
+      go k [] s e no-more = record { said = (omega arith, e); long = refl; given = let i : givenOf c + 0 ≡ givenOf c = omega arith in rw (f, i, append-nil) }
 
   module _ (lawful : Lawful way) (placed : (k : Kind) (n : Node) (w : Word) → stands k n w → Placed (k .limits) n) where
     -- the first node's own part of what a walk over several starts from
@@ -38,8 +38,8 @@ module _ {A S : Type 0} (way : Way A S) (stands : Kind → Node → Word → Typ
       one-ready : Ready way stands k (n ∷ []) s u c (w ∷ [])
       one-ready = record { proper = ready .proper; table = ready .table; stand = one-more st no-more; placed = ready .placed; room = first-room _ _ n ns (ready .room) }
 
-      one-step : Step way ns (countOf c) (walkOver way k (n ∷ []) s)
-      one-step = lawful .step k n (ready .proper) (placed k n w st) ns (placeOf c) (countOf c) s (ready .placed) (ready .room)
+      one-step : Step way ns (givenOf c) (walkOver way k (n ∷ []) s)
+      one-step = lawful .step k n (ready .proper) (placed k n w st) ns (placeOf c) (givenOf c) s (ready .placed) (ready .room)
 
       module _ (b : List ℕ) (r : ℕ) (m : List ℕ) (first : Walked way stands u c (w ∷ []) b r m) where
         one-done : Done way (walkOver way k (n ∷ []) s) c b r m
@@ -49,7 +49,7 @@ module _ {A S : Type 0} (way : Way A S) (stands : Kind → Node → Word → Typ
         stopped-one h = done-stop way k n ns s lawful c one-step b m r one-done h
 
         module _ (h : r < 9223372036854775808) where
-          end : (t : S) × (walkOver way k (n ∷ []) s .end ≡ goes t) × (countOf r ≡ countOf c + length (walkOver way k (n ∷ []) s .given)) × way .at (placeOf r) t
+          end : (t : S) × (walkOver way k (n ∷ []) s .end ≡ goes t) × (givenOf r ≡ givenOf c + length (walkOver way k (n ∷ []) s .given)) × way .at (placeOf r) t
           end = goes-on way r _ _ (one-done .said) h
 
           rest-ready : Ready way stands k ns (end .0) u r ws

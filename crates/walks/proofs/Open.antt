@@ -15,13 +15,13 @@ use Rattle.tree.specs.Splits.{bit, has, rightOut, bottomOut, inside, ternaryNee
 use Rattle.tree.specs.Children.{cornerInside}
 use Rattle.tree.specs.Rows.{rowOf}
 use Rattle.tree.proofs.Masks.{rights-back}
-use Rattle.blocks.specs.Words.{rowWord}
+use Rattle.blocks.specs.RowNumbers.{rowWord}
 use Rattle.laws.specs.Proper.{Proper}
 use Rattle.laws.proofs.Edge.{out-sixteen}
 use Rattle.laws.proofs.Opens.{binary-open}
 use Rattle.laws.proofs.Picture.{cut-out}
 use Rattle.nodes.specs.Tables.{sideRights, leaving, both, widthRights, heightRights, tableOf}
-use Rattle.nodes.specs.Words.{innerIn, edgeCut, outIn, boundIn}
+use Rattle.nodes.specs.RowNodes.{innerIn, edgeCut, outIn, boundIn}
 use Rattle.walks.specs.Stands.{word, keeps, Placed, Outer, Inside}
 use Rattle.walks.proofs.Sides.{width-mask, height-mask, area-mask}
 use Rattle.walks.proofs.MaskLaws.{splits-and, and-splits}

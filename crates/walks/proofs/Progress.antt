@@ -6,7 +6,7 @@ use lib.ListN.{length}
 use native.Mathlib.Omega.{arith}
 use Rattle.tree.specs.declared.Node.{Node}
 use Rattle.tree.specs.Kind.{Kind}
-use Rattle.nodes.specs.Words.{openBelow}
+use Rattle.nodes.specs.RowNodes.{openBelow}
 use Rattle.walks.specs.Stands.{Word, word, Placed}
 use Rattle.walks.specs.Walks.{Way, Asked, Walked}
 use Rattle.walks.proofs.Lawful.{Lawful}

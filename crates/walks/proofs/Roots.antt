@@ -12,14 +12,14 @@ use Rattle.tree.specs.Kind.{Kind}
 use Rattle.tree.specs.Splits.{isOut, inside, rightsOf, openSplits}
 use Rattle.tree.specs.Children.{cornerInside}
 use Rattle.tree.specs.Rows.{rowOf}
-use Rattle.blocks.specs.Words.{rowWord}
+use Rattle.blocks.specs.RowNumbers.{rowWord}
 use Rattle.laws.specs.Areas.{areasOf, spareOf}
 use Rattle.laws.specs.Proper.{Proper, RootSquare}
 use Rattle.laws.proofs.Edge.{good-root}
 use Rattle.laws.proofs.Picture.{starts-in}
 use Rattle.laws.proofs.Runs.{over-one}
 use Rattle.nodes.specs.Tables.{tableOf, limitsIn}
-use Rattle.nodes.specs.Words.{nodeIn, boundIn, depthAbove}
+use Rattle.nodes.specs.RowNodes.{nodeIn, boundIn, depthAbove}
 use Rattle.walks.specs.Rooted.{Rooted, Given, SomeRoot}
 use Rattle.walks.specs.Stands.{word, Outer, Inside, no-more, one-more}
 use Rattle.walks.specs.Walks.{Way, Room, walkOver, Ready, Done, Asked, Walked}

@@ -10,12 +10,12 @@ use Rattle.tree.specs.Kind.{Kind}
 use Rattle.tree.specs.Splits.{rightOut, bottomOut}
 use Rattle.tree.specs.Children.{cornerInside}
 use Rattle.tree.specs.Rows.{rowOf}
-use Rattle.blocks.specs.Words.{rowWord}
-use Rattle.blocks.proofs.Words.{word-is}
+use Rattle.blocks.specs.RowNumbers.{rowWord}
+use Rattle.blocks.proofs.RowNumbers.{word-is}
 use Rattle.laws.specs.Shape.{Shape}
 use Rattle.laws.proofs.Multiples.{fold-least}
 use Rattle.laws.proofs.Sides.{One, one-of}
-use Rattle.nodes.specs.Words.{nodeIn}
+use Rattle.nodes.specs.RowNodes.{nodeIn}
 use Rattle.walks.specs.Stands.{Placed, Outer, word, keeps}
 use Rattle.walks.proofs.Sides.{exponent-of}
 use Rattle.walks.proofs.MaskLaws.{splits-small}

@@ -13,7 +13,7 @@ use Rattle.sides.specs.Side.{exponent}
 use Rattle.tree.specs.Kind.{Kind}
 use Rattle.laws.proofs.Sides.{One, one-4, one-8, one-16, one-32, one-64, one-128}
 use Rattle.nodes.specs.Tables.{widthMask, heightMask, areaMask, tableOf}
-use Rattle.nodes.specs.Words.{fall}
+use Rattle.nodes.specs.RowNodes.{fall}
 
 pub one-least : {n : ℕ} → One n → 4 ≤ n
 one-least one-4 = omega arith

@@ -12,12 +12,12 @@ use Rattle.tree.specs.Splits.{isSplit, isOut, rightsOf, allows}
 use Rattle.tree.specs.Children.{children, cornerInside}
 use Rattle.tree.specs.Rows.{rowOf}
 use Rattle.tree.specs.Run.{before}
-use Rattle.blocks.specs.Words.{rowWord}
+use Rattle.blocks.specs.RowNumbers.{rowWord}
 use Rattle.laws.specs.Areas.{areasOf, spareOf}
 use Rattle.laws.proofs.Areas.{kids-areas, kids-spare}
-use Rattle.nodes.specs.State.{placeOf, countOf}
+use Rattle.nodes.specs.State.{placeOf, givenOf}
 use Rattle.nodes.specs.Tables.{limitsIn}
-use Rattle.nodes.specs.Words.{nodeIn}
+use Rattle.nodes.specs.RowNodes.{nodeIn}
 use Rattle.walks.specs.Stands.{Word, word, Placed, Inside, Outer, AllStand}
 use Rattle.walks.specs.Kids.{innerKids, outerKids}
 use Rattle.walks.specs.Walks.{Way, walkOver, Ready, Asked, Walked}
@@ -37,10 +37,10 @@ module _ {A S : Type 0} (way : Way A S) (c : ℕ) (d : Decision) (b : List ℕ) 
     pub state : S
     pub goes-on : way .go k n s ≡ before own (walkOver way k (children (k .limits) n d) state)
     pub at : way .at (placeOf m) state
-    pub count : countOf m ≡ countOf c + length own
+    pub count : givenOf m ≡ givenOf c + length own
     pub put : Stored way c b own mid
-    pub rows : way .rows (placeOf m) (countOf m) ≡ way .rows (placeOf c) (countOf c)
-    pub flags : way .flags (placeOf m) (countOf m) ≤ way .flags (placeOf c) (countOf c) + 4
+    pub rows : way .rows (placeOf m) (givenOf m) ≡ way .rows (placeOf c) (givenOf c)
+    pub flags : way .flags (placeOf m) (givenOf m) ≤ way .flags (placeOf c) (givenOf c) + 4
 
   -- a split of all nodes that numbers may stand for, and the numbers of the children
   pub record Split (stands : Kind → Node → Word → Type 0) (u : List ℕ) (w : Word) (ws : List Word) : Type 0 where

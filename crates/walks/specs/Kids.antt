@@ -4,7 +4,7 @@ use mathlib.Core.List.{List, [], _∷_}
 use Rattle.tree.specs.declared.Direction.{Direction}
 use Rattle.tree.specs.declared.Decision.{Decision}
 use Rattle.tree.specs.declared.Decision.the-variants.{Leaf, Quad, Binary, Ternary}
-use Rattle.nodes.specs.Words.{childRow, cutsOf, openBelow, depthAbove, depthBelow}
+use Rattle.nodes.specs.RowNodes.{childRow, cutsOf, openBelow, depthAbove, depthBelow}
 use Rattle.walks.specs.Stands.{Word, word}
 
 -- the four children of a quad split, the two parts of a binary one, and the three parts of a ternary one, of which the middle one is left less

@@ -8,7 +8,7 @@ use Rattle.tree.specs.Kind.{Kind}
 use Rattle.tree.specs.Splits.{isOut, rightsOf, openSplits}
 use Rattle.tree.specs.Children.{cornerInside}
 use Rattle.tree.specs.Rows.{rowOf}
-use Rattle.blocks.specs.Words.{rowWord}
+use Rattle.blocks.specs.RowNumbers.{rowWord}
 use Rattle.laws.specs.Proper.{Proper}
 use Rattle.nodes.specs.Tables.{tableOf}
 use Rattle.walks.specs.Stands.{Placed}

@@ -10,7 +10,7 @@ use Rattle.tree.specs.Kind.{Kind}
 use Rattle.tree.specs.Splits.{inside, closedMiddle, Rights, rightsOf, openSplits}
 use Rattle.tree.specs.Children.{cornerInside}
 use Rattle.tree.specs.Rows.{rowOf}
-use Rattle.blocks.specs.Words.{rowWord}
+use Rattle.blocks.specs.RowNumbers.{rowWord}
 use Rattle.laws.specs.Good.{Good}
 
 -- the two numbers of a node: its row as one number, and the splits that are left to it

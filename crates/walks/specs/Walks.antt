@@ -9,7 +9,7 @@ use Rattle.tree.specs.Run.{End, goes, stops, Run, overAll}
 use Rattle.laws.specs.Areas.{areasOf, spareOf}
 use Rattle.laws.specs.Proper.{Proper}
 use Rattle.nodes.specs.Tables.{tableOf}
-use Rattle.nodes.specs.State.{refusal, placeOf, countOf}
+use Rattle.nodes.specs.State.{refusal, placeOf, givenOf}
 use Rattle.walks.specs.Stands.{Word, AllStand}
 
 -- What is walked: what happens at a node, from a state; which states stand at a place of what is read; what is given, as it is stored, one number each;
@@ -37,14 +37,14 @@ module _ {A S : Type 0} (way : Way A S) where
 
   -- a number says how a run ends, after so many given
   unfoldable pub Says : ℕ → ℕ → End S → Type 0
-  Says answer count (goes s) = (countOf answer ≡ count) × way .at (placeOf answer) s
+  Says answer count (goes s) = (givenOf answer ≡ count) × way .at (placeOf answer) s
   Says answer count (stops number place) = answer ≡ refusal number place
 
   -- a run is answered, and what it gives follows what was given so far in the scratch table
   pub record Done (run : Run A S) (c : ℕ) (before : List ℕ) (answer : ℕ) (after : List ℕ) : Type 0 where
-    pub said : Says answer (countOf c + length (run .given)) (run .end)
+    pub said : Says answer (givenOf c + length (run .given)) (run .end)
     pub long : length after ≡ length before
-    pub given : take (countOf c + length (run .given)) after ≡ take (countOf c) before ++ way .stored (run .given)
+    pub given : take (givenOf c + length (run .given)) after ≡ take (givenOf c) before ++ way .stored (run .given)
 
   module _ (stands : Kind → Node → Word → Type 0) where
     -- what a walk starts from: the table of the kind, numbers that stand for the nodes, a place of what is read, and room
@@ -53,7 +53,7 @@ module _ {A S : Type 0} (way : Way A S) where
       pub table : u ≡ tableOf k
       pub stand : AllStand (stands k) ns ws
       pub placed : way .at (placeOf c) s
-      pub room : RoomAt (placeOf c) (countOf c) ns
+      pub room : RoomAt (placeOf c) (givenOf c) ns
 
     pub record Asked (u : List ℕ) (c : ℕ) (ws : List Word) : Type 0 where
       pub kind : Kind

@@ -19,7 +19,7 @@ use Rattle.tree.specs.Rows.{rowOf, ownRows, rowAt, rowsAt}
 use Rattle.tree.specs.Back.{sameRow}
 use Rattle.tree.specs.Tree.{none, node, flagsOf, rowsOf}
 use Rattle.tree.proofs.Masks.{rights-back}
-use Rattle.blocks.specs.Words.{rowWord}
+use Rattle.blocks.specs.RowNumbers.{rowWord}
 use Rattle.laws.proofs.Runs.{gives}
 use Rattle.laws.proofs.SameRow.{same-row}
 use Rattle.laws.proofs.Turning.{turning-is-tree}

@@ -11,14 +11,14 @@ use Rattle.laws.proofs.BackRefusals.{BackFine}
 use Rattle.laws.proofs.Tables.{rows-long}
 use Rattle.unit.specs.Answers.{endAnswer}
 use Rattle.unit.specs.Writer.{noneLeft}
-use Rattle.nodes.specs.State.{placeOf, countOf, refusal}
+use Rattle.nodes.specs.State.{placeOf, givenOf, refusal}
 use Rattle.walks.specs.Walks.{Says, Done}
 use Rattle.back.specs.Walking.{Left, backWay}
 use Rattle.writer.specs.Delivery.{walkEnd}
 
 module _ (bytes : List ℕ) (answer count : ℕ) where
   -- a walk that goes on: rows are left where its place is before the end
-  left-is : length bytes % 8 ≡ 0 → count ≤ 4096 → countOf answer ≡ count → (left : List Row) → Left bytes (placeOf answer) left → walkEnd answer bytes ≡ endAnswer count (noneLeft (goes left))
+  left-is : length bytes % 8 ≡ 0 → count ≤ 4096 → givenOf answer ≡ count → (left : List Row) → Left bytes (placeOf answer) left → walkEnd answer bytes ≡ endAnswer count (noneLeft (goes left))
   unfolding walkEnd noneLeft
   left-is whole few e [] l =
       let n = ap length (l .from) ∙ rows-long (length bytes / 8 - placeOf answer / 8) bytes (placeOf answer / 8 * 8) in

@@ -18,7 +18,7 @@ use Rattle.unit.specs.Answers.{Meets, deliver}
 use Rattle.nodes.specs.declared.state.Child.{Child}
 use Rattle.nodes.specs.declared.state.Child.the-variants as child
 use Rattle.nodes.proofs.state.Child as C
-use Rattle.nodes.specs.State.{placeOf, countOf, refusalNumber, refusalPlace}
+use Rattle.nodes.specs.State.{placeOf, givenOf, refusalNumber, refusalPlace}
 use Rattle.walks.proofs.Apart.{was-walked}
 use Rattle.writer.specs.Delivery.{leafFlags, deliverLeaf, walkEnd, deliverFlags}
 
@@ -76,7 +76,7 @@ module _ (answer : ℕ) (w : Child) (apart : w ≡ cond (ltb answer 922337203685
     unfolding walkEnd
     end-left h = rw (on, at-place, lt-ltb _ _ h)
 
-    pub end-all : length rows ≤ at → (n : ℕ) → n ≡ countOf end → Accepted n ≡ walkEnd answer rows
+    pub end-all : length rows ≤ at → (n : ℕ) → n ≡ givenOf end → Accepted n ≡ walkEnd answer rows
     unfolding walkEnd
     end-all all n e = rw (on, at-place, le-ltb _ _ all, e, read-is .0)
 

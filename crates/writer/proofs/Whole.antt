@@ -21,7 +21,7 @@ use Rattle.unit.specs.declared.Answer.the-variants.{Accepted, Refused}
 use Rattle.unit.specs.Answers.{Meets, deliver, finishEnd, answerOf}
 use Rattle.unit.specs.Writer.{flagsFrom, testRows, writeRows}
 use Rattle.unit.proofs.Accepts.{answer-stops, answer-goes}
-use Rattle.nodes.specs.State.{countOf}
+use Rattle.nodes.specs.State.{givenOf}
 use Rattle.walks.specs.Rooted.{Rooted}
 use Rattle.walks.specs.Walks.{Done}
 use Rattle.back.specs.Walking.{backWay}
@@ -74,7 +74,7 @@ root-kept {l} {root} r bytes whole {b} {z} done e =
     let a = mul-le-mul (r .placed .good .shape .side Vertical .most) (r .placed .good .shape .side Horizontal .most) in
     let q = back-bound (r .proper) (r .placed .good) (r .placed .sum) (rowsIn bytes) .flags in
     let few : length (run .given) ≤ 4096 = omega arith in
-    let i : length (run .given) ≡ countOf 0 + length (run .given) = omega arith in
+    let i : length (run .given) ≡ givenOf 0 + length (run .given) = omega arith in
     rw (eq-eqb _ _ whole)
     (record {
       answers = e ∙ walk-end bytes run done whole few (back-fine (luma l) (levelsLeft root) root (rowsIn bytes));

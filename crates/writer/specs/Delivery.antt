@@ -16,7 +16,7 @@ use Rattle.tree.specs.Back.{sameRow}
 use Rattle.unit.specs.declared.Answer.{Answer}
 use Rattle.unit.specs.declared.Answer.the-variants.{Accepted, Refused}
 use Rattle.unit.specs.Answers.{Outcome, refused, deliver, answerOf}
-use Rattle.nodes.specs.State.{placeOf, countOf, refusalNumber, refusalPlace}
+use Rattle.nodes.specs.State.{placeOf, givenOf, refusalNumber, refusalPlace}
 
 -- the bytes are one row, the root's own, and the root lies inside the picture: it is a leaf
 abbrev pub leafAlone : Limits → Node → List ℕ → Bool
@@ -34,7 +34,7 @@ deliverLeaf splits buffer = deliver 17 (length (leafFlags splits)) (leafFlags sp
 unfoldable pub walkEnd : ℕ → List ℕ → Answer
 walkEnd answer rows =
     cond (ltb answer 9223372036854775808)
-    (cond (ltb (placeOf answer) (length rows)) (Refused 16 0) (Accepted (countOf answer)))
+    (cond (ltb (placeOf answer) (length rows)) (Refused 16 0) (Accepted (givenOf answer)))
     (Refused (refusalNumber answer) (refusalPlace answer))
 
 -- the first flags of a scratch table into a buffer; 17 where it is too short

@@ -9,7 +9,7 @@ use Rattle.walks.specs.Rooted.{SomeRoot}
 use Rattle.walks.specs.Stands.{word, Inside}
 use Rattle.walks.specs.Walks.{Asked}
 use Rattle.walks.proofs.Roots.{root-begins, root-out, out-asked, out-done, in-asked, in-done}
-use Rattle.nodes.specs.Words.{boundIn}
+use Rattle.nodes.specs.RowNodes.{boundIn}
 use Rattle.back.specs.Walking.{backWay}
 use Rattle.back.proofs.Steps.{at-row, leaf-room, walked-own, not-own}
 use Rattle.back.proofs.Whole.{all-left, none-before}

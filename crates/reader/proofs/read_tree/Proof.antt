@@ -29,7 +29,7 @@ returns-2 c =
     let ou = jo .before .before .before in
     let st = ou .before .before .before in
     let a = st .args in
-    leaf-delivered (st .pre) (now (a .flags)) (ou .out .ensures) (op .open-splits .result) (ap (λ x. eqb x 0) (op .open-splits .ensures)) (sym (il .is-leaf2 .ensures) ∙ th .if3 .taken) (lf .leaf-flags .ensures) (now (a .rows)) (on .one-row2 .ensures)
+    leaf-delivered (st .pre) (now (a .flags)) (ou .out .ensures) (op .open-splits .result) (ap (λ x. eqb x 0) (op .open-splits .ensures)) (sym (il .is-leaf2 .ensures) ∙ th .if3 .taken) (lf .leaf-count .ensures) (now (a .rows)) (on .one-row2 .ensures)
 
 -- what the walk is given
 given : (ro : tie.After-row-word) → let ta = ro .before .before in let op = ta .before .before .before in let ou = op .before .before .before .before in let a = ou .before .before .before .args in

@@ -8,7 +8,7 @@ use denote.Ref.{now}
 use borrow.Author.Tests.{eq-eqb, ne-eqb}
 use Rattle.tree.specs.declared.Decision.the-variants.{Ternary}
 use Rattle.tree.specs.declared.Direction.the-variants.{Horizontal, Vertical}
-use Rattle.nodes.specs.Words.{nodeIn}
+use Rattle.nodes.specs.RowNodes.{nodeIn}
 use Rattle.back.specs.Marks.{Cut}
 use Rattle.back.proofs.Found.{Shows, area-is, left-is, top-is, shows, cut-flat, cut-steep, cut-in-three}
 use borrow.Author.Needs.{needs}

@@ -1,5 +1,5 @@
 use native.Mathlib.Omega.{arith}
-use Rattle.nodes.specs.Words.{nodeIn}
+use Rattle.nodes.specs.RowNodes.{nodeIn}
 use Rattle.back.proofs.Found.{divided-quad, divided-cut}
 use borrow.Author.Needs.{needs}
 use Rattle.back.proofs.ahead.decision_inside.Statement.{statement}

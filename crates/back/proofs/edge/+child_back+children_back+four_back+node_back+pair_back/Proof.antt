@@ -8,7 +8,7 @@ use borrow.Author.Needs.{needs}
 use Rattle.tree.specs.declared.Decision.the-variants.{Quad}
 use Rattle.tree.specs.Splits.{rightOut, bottomOut, rightsIn, allows}
 use Rattle.nodes.specs.Tables.{limitsIn}
-use Rattle.nodes.specs.Words.{nodeIn, childRow, outIn}
+use Rattle.nodes.specs.RowNodes.{nodeIn, childRow, outIn}
 use Rattle.walks.specs.Stands.{Word, word, Outer}
 use Rattle.walks.specs.Kids.{fourWords, outerKids}
 use Rattle.walks.proofs.Apart.{tested-not, tested-or, was-walked, was-refused}

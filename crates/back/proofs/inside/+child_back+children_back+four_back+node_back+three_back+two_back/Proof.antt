@@ -7,7 +7,7 @@ use denote.Ref.{now}
 use borrow.Author.Needs.{needs}
 use Rattle.tree.specs.declared.Decision.the-variants.{Quad, Binary, Ternary}
 use Rattle.tree.specs.Splits.{rightsIn, allows}
-use Rattle.nodes.specs.Words.{childRow, cutsOf, openBelow}
+use Rattle.nodes.specs.RowNodes.{childRow, cutsOf, openBelow}
 use Rattle.walks.specs.Stands.{Word, word, Inside}
 use Rattle.walks.specs.Kids.{innerKids}
 use Rattle.walks.specs.Walks.{Asked}

@@ -4,7 +4,7 @@ use native.Mathlib.Omega.{arith}
 use lib.ListN.{length}
 use denote.Ref.{now}
 use borrow.Author.Tests.{le-leb, lt-leb}
-use Rattle.blocks.specs.Words.{putWord}
+use Rattle.blocks.specs.RowNumbers.{putWord}
 use borrow.Author.Needs.{needs}
 use Rattle.blocks.proofs.rows.put_row.Statement.{statement}
 use Rattle.blocks.proofs.rows.put_row.Tie as tie

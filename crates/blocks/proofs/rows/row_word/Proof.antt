@@ -1,5 +1,5 @@
 use Rattle.tree.specs.Rows.{rowOf}
-use Rattle.blocks.proofs.Words.{word-is}
+use Rattle.blocks.proofs.RowNumbers.{word-is}
 use borrow.Author.Needs.{needs}
 use Rattle.blocks.proofs.rows.row_word.Statement.{statement}
 use Rattle.blocks.proofs.rows.row_word.Tie as tie

@@ -1,7 +1,7 @@
 use native.Mathlib.Omega.{arith}
 use native.Mathlib.Numerals.{towards-suc}
 use lib.ListN.{length-set}
-use Rattle.blocks.specs.Words.{wordBytes}
+use Rattle.blocks.specs.RowNumbers.{wordBytes}
 use borrow.Author.Needs.{needs}
 use Rattle.blocks.proofs.rows.store_word.Statement.{statement}
 use Rattle.blocks.proofs.rows.store_word.Tie as tie

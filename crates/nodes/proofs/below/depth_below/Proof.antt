@@ -1,4 +1,4 @@
-use Rattle.nodes.specs.Words.{nodeIn}
+use Rattle.nodes.specs.RowNodes.{nodeIn}
 use borrow.Author.Needs.{needs}
 use Rattle.nodes.proofs.below.depth_below.Statement.{statement}
 use Rattle.nodes.proofs.below.depth_below.Tie as tie

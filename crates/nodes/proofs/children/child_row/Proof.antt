@@ -1,4 +1,4 @@
-use Rattle.nodes.specs.Words.{childRow}
+use Rattle.nodes.specs.RowNodes.{childRow}
 use borrow.Author.Needs.{needs}
 use Rattle.nodes.proofs.children.child_row.Statement.{statement}
 use Rattle.nodes.proofs.children.child_row.Tie as tie

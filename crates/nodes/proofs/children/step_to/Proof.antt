@@ -1,4 +1,4 @@
-use Rattle.nodes.specs.Words.{nodeIn}
+use Rattle.nodes.specs.RowNodes.{nodeIn}
 use borrow.Author.Needs.{needs}
 use Rattle.nodes.proofs.children.step_to.Statement.{statement}
 use Rattle.nodes.proofs.children.step_to.Tie as tie

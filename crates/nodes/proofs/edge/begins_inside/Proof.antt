@@ -1,6 +1,6 @@
 -- `begins_inside` meets its contract.
 use Rattle.tree.specs.Children.{cornerInside}
-use Rattle.nodes.specs.Words.{nodeIn}
+use Rattle.nodes.specs.RowNodes.{nodeIn}
 use borrow.Author.Needs.{needs}
 use Rattle.nodes.proofs.edge.begins_inside.Statement.{statement}
 use Rattle.nodes.proofs.edge.begins_inside.Tie as tie

@@ -1,5 +1,5 @@
 -- `bottom_out_at` meets its contract.
-use Rattle.nodes.specs.Words.{nodeIn}
+use Rattle.nodes.specs.RowNodes.{nodeIn}
 use borrow.Author.Needs.{needs}
 use Rattle.nodes.proofs.edge.bottom_out_at.Statement.{statement}
 use Rattle.nodes.proofs.edge.bottom_out_at.Tie as tie

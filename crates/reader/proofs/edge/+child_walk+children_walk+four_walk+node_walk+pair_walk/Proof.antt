@@ -10,7 +10,7 @@ use Rattle.tree.specs.Splits.{rightOut, bottomOut}
 use Rattle.flags.specs.Out.{decideOut}
 use Rattle.nodes.specs.State.{placeOf}
 use Rattle.nodes.specs.Tables.{limitsIn}
-use Rattle.nodes.specs.Words.{nodeIn, childRow, outIn}
+use Rattle.nodes.specs.RowNodes.{nodeIn, childRow, outIn}
 use Rattle.walks.specs.Stands.{Word, word, Outer}
 use Rattle.walks.specs.Kids.{fourWords, outerKids}
 use Rattle.walks.proofs.Apart.{tested-not, tested-or, was-walked, was-refused}

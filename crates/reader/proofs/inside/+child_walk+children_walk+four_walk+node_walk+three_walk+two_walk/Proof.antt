@@ -11,7 +11,7 @@ use Rattle.tree.specs.declared.Choice.{Choice}
 use Rattle.tree.specs.Splits.{rightsIn}
 use Rattle.tree.specs.Flags.{flagAt, afterSplit}
 use Rattle.nodes.specs.State.{placeOf}
-use Rattle.nodes.specs.Words.{childRow, cutsOf, openBelow}
+use Rattle.nodes.specs.RowNodes.{childRow, cutsOf, openBelow}
 use Rattle.walks.specs.Stands.{Word, word, Inside}
 use Rattle.walks.specs.Kids.{innerKids}
 use Rattle.walks.specs.Walks.{Asked}

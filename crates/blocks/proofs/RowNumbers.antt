@@ -5,7 +5,7 @@ use mathlib.Core.List.{[], _∷_}
 use native.Mathlib.Omega.{arith}
 use native.Mathlib.Nat.{div-div-eq-div-mul}
 use Rattle.tree.specs.Rows.{Row, rowBytes}
-use Rattle.blocks.specs.Words.{rowWord, wordOf, wordBytes}
+use Rattle.blocks.specs.RowNumbers.{rowWord, wordOf, wordBytes}
 
 pub word-is : (r : Row)
     → r .x % 65536 + r .y % 65536 * 65536 + (r .ew % 256 + r .eh % 256 * 256) * 4294967296 + (r .qt % 256 + r .mtt % 256 * 256) * 281474976710656
