@@ -10,7 +10,7 @@ ghost use Rattle.blocks.specs.RowNumbers.{rowWord, wordBytes, Put};
 
 // What 1 in each field of a row is in its number, where X stands lowest: Y,
 pub const ROW_Y: u64 = 65536;
-// the exponents of its width
+// the exponent of its width
 pub const ROW_WIDTH: u64 = 4294967296;
 // and of its height,
 pub const ROW_HEIGHT: u64 = 1099511627776;

@@ -26,7 +26,7 @@ pub(crate) fn is_leaf(out: bool, splits: u32, flags: &[u8]) -> bool
     }
 }
 
-// The flags that a leaf has, 1 where some split is open.
+// How many flags a root has that is a leaf: its split flag, where some split is open.
 pub(crate) fn leaf_count(splits: u32) -> usize
     ensures { λ r. ⌜ r ≡ leafCount splits ⌝ }
 {
