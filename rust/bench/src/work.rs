@@ -63,8 +63,9 @@ impl Way {
 }
 
 /// A call on a unit into a lent buffer. All sides are called through such a pointer, so that none
-/// is inlined into the loop.
-pub type Call = fn(&Unit, &mut [u8]) -> [u64; 2];
+/// is inlined into the loop. The answer's two numbers are passed in registers: an array would be
+/// copied by one load, which waits until the two stores before it have left the core.
+pub type Call = fn(&Unit, &mut [u8]) -> (u64, u64);
 
 /// A kind of call, and the length of the buffer that it is lent.
 #[derive(Clone, Copy)]
@@ -84,26 +85,26 @@ impl Work {
 fn call(side: Side, way: Way) -> Option<Call> {
     Some(match (side, way) {
         (Side::Engine, Way::Read) => {
-            |u, lent| raw::read_unit(&u.settings, u.address, &u.flags, lent)
+            |u, lent| raw::read_unit(&u.settings, u.address, &u.flags, lent).into()
         }
         (Side::Engine, Way::Write) => {
-            |u, lent| raw::write_flags(&u.settings, u.address, &u.rows, lent)
+            |u, lent| raw::write_flags(&u.settings, u.address, &u.rows, lent).into()
         }
-        (Side::Engine, Way::Page) => |u, lent| raw::page(&u.settings, u.address, &u.rows, lent),
+        (Side::Engine, Way::Page) => {
+            |u, lent| raw::page(&u.settings, u.address, &u.rows, lent).into()
+        }
         (Side::H266, Way::Read) => {
-            |u, lent| h266::read_unit(&u.settings, u.address, &u.flags, lent).into()
+            |u, lent| h266::read_unit(&u.settings, u.address, &u.flags, lent)
         }
         (Side::H266, Way::Write) => {
-            |u, lent| h266::write_flags(&u.settings, u.address, &u.rows, lent).into()
+            |u, lent| h266::write_flags(&u.settings, u.address, &u.rows, lent)
         }
-        (Side::H266, Way::Page) => {
-            |u, lent| h266::page(&u.settings, u.address, &u.rows, lent).into()
-        }
+        (Side::H266, Way::Page) => |u, lent| h266::page(&u.settings, u.address, &u.rows, lent),
         (Side::Tuned, Way::Read) => {
-            |u, lent| tuned::read_unit(&u.settings, u.address, &u.flags, lent).into()
+            |u, lent| tuned::read_unit(&u.settings, u.address, &u.flags, lent)
         }
         (Side::Tuned, Way::Write) => {
-            |u, lent| tuned::write_flags(&u.settings, u.address, &u.rows, lent).into()
+            |u, lent| tuned::write_flags(&u.settings, u.address, &u.rows, lent)
         }
         (Side::Tuned, Way::Page) => return None,
     })
@@ -121,6 +122,7 @@ impl Buffer {
     #[inline(always)]
     pub fn lend(&mut self, call: Call, unit: &Unit) {
         let answer = call(black_box(unit), black_box(&mut self.0[..]));
-        assert!(black_box(answer)[0] == 0, "a legal unit was refused");
+        assert!(black_box(answer.0) == 0, "a legal unit was refused");
+        black_box(answer.1);
     }
 }
