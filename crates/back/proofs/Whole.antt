@@ -1,15 +1,28 @@
--- The way back of a whole table, from its first row.
+-- Where the way back of a root starts: from any row of a table, or from its first.
 use Prim.Native.Nat.{ℕ, _-_, _/_}
-use mathlib.Core.Path.{_≡_, refl, ap}
+use mathlib.Core.Path.{_≡_, refl, subst}
 use mathlib.Core.List.{List}
 use native.Mathlib.Omega.{arith}
 use lib.ListN.{length}
+use Rattle.tree.specs.declared.Node.{Node}
+use Rattle.tree.specs.Kind.{Kind}
 use Rattle.tree.specs.Rows.{rowsAt, rowsIn}
-use Rattle.back.specs.Walking.{Left, backWay}
+use Rattle.tree.specs.Back.{backNode}
+use Rattle.nodes.specs.State.{placeOf}
+use Rattle.walks.specs.Rooted.{RootRoom}
+use Rattle.walks.specs.Walks.{Done}
+use Rattle.back.specs.Table.{rowsLeft}
+use Rattle.back.specs.Walking.{Left, backWay, Starts}
 
--- all rows are left, and none is before them
-pub all-left : (bytes : List ℕ) → Left bytes 0 (rowsIn bytes)
-all-left bytes = record { from = ap (λ (i : ℕ). rowsAt i bytes 0) (let e : length bytes / 8 ≡ length bytes / 8 - 0 = omega arith in e); first = refl; within = omega arith }
+-- its rows are those that are left
+pub starts-left : {bytes : List ℕ} {c row : ℕ} → Starts bytes c row → Left bytes (placeOf c) (rowsLeft bytes (placeOf c / 8))
+starts-left s = record { from = refl; first = s .first; within = s .within }
 
-pub none-before : (bytes : List ℕ) → (backWay bytes .rows 0 0 ≡ 0) × (backWay bytes .flags 0 0 ≡ 0)
-none-before bytes = (refl, refl)
+-- from the first row on, all rows are left, and none is before them
+pub starts-first : (bytes : List ℕ) {row : ℕ} → RootRoom 0 0 row → Starts bytes 0 row
+starts-first bytes room = record { first = refl; within = omega arith; room = room }
+
+pub first-done : (bytes : List ℕ) (k : Kind) (root : Node) {b z : List ℕ} {r : ℕ} → Done (backWay bytes) (backNode k root (rowsLeft bytes 0)) 0 b r z → Done (backWay bytes) (backNode k root (rowsIn bytes)) 0 b r z
+first-done bytes k root {b} {z} {r} d =
+    let e : length bytes / 8 - 0 ≡ length bytes / 8 = omega arith in
+    subst (λ (i : ℕ). Done (backWay bytes) (backNode k root (rowsAt i bytes 0)) 0 b r z) e d

@@ -7,8 +7,9 @@ use lib.Dec.{ltb, eqb}
 use lib.ListN.{length}
 use Rattle.tree.specs.Rows.{Row}
 use Rattle.tree.specs.Back.{backNode}
-use Rattle.nodes.specs.State.{placeOf}
+use Rattle.nodes.specs.State.{placeOf, givenOf}
 use Rattle.nodes.specs.Tables.{limitsIn}
+use Rattle.walks.specs.Rooted.{RootRoom}
 use Rattle.walks.specs.Walks.{Way}
 use Rattle.back.specs.Table.{rowsLeft, wordAt}
 use Rattle.back.specs.Marks.{cellsBefore, Marked}
@@ -28,6 +29,12 @@ backWay bytes = record {
   rows = λ place count. cellsBefore bytes (place / 8);
   flags = λ place count. count;
 }
+
+-- a root's way back starts from a row of the table, with room for its tree behind the cells and the flags so far
+pub record Starts (bytes : List ℕ) (c row : ℕ) : Type 0 where
+  pub first : placeOf c % 8 ≡ 0
+  pub within : placeOf c ≤ length bytes
+  pub room : RootRoom (cellsBefore bytes (placeOf c / 8)) (givenOf c) row
 
 -- what is read: whole rows and, where a cut may be open, their marks
 pub record Read (u bytes marks : List ℕ) : Type 0 where

@@ -10,40 +10,44 @@ use flags::Scratch;
 use marks::Marks;
 use nodes::Table;
 ghost use mathlib.Core.Path.{_≡_};
-ghost use Prim.Native.Nat.{_%_};
+ghost use Prim.Native.Nat.{_/_, _%_};
 ghost use lib.ListN.{length};
 ghost use Rattle.tree.specs.Kind.{Kind};
 ghost use Rattle.tree.specs.declared.Node as Nodes;
 ghost use Rattle.tree.specs.Rows.{rowsIn};
 ghost use Rattle.tree.specs.Back.{backNode};
+ghost use Rattle.nodes.specs.State.{placeOf};
 ghost use Rattle.walks.specs.Rooted.{Given, SomeRoot};
 ghost use Rattle.walks.specs.Walks.{Done};
-ghost use Rattle.back.specs.Walking.{backWay, Read};
+ghost use Rattle.back.specs.Table.{rowsLeft};
+ghost use Rattle.back.specs.Walking.{backWay, Starts, Read};
 
-// The walk of a root. One that is out is above all cuts, as a child of a quad split is. One inside the picture is met as
-// a child is: the second caller keeps `node_back` a function of its own, so that a leaf is met without a call.
+// The walk of a root, from any row on. One that is out is above all cuts, as a child of a quad split is. One inside the
+// picture is met as a child is: the second caller keeps `node_back` a function of its own, so that a leaf is met without
+// a call.
 fn root_back(
     u: &Table,
     rows: &[u8],
     flags: &mut Scratch,
     marks: &Marks,
+    c: u64,
     row: u64,
     out: bool,
     splits: u32,
 ) -> u64
-    requires { ⌜ SomeRoot (now u) row out splits × Read (now u) (now rows) (now marks) × (length (now flags) ≡ 4096) ⌝ }
-    ensures { λ r. ⌜ ((k : Kind) (root : Nodes.Node) → Given k root (now (u .entry)) row out splits → Done (backWay (now (rows .entry))) (backNode k root (rowsIn (now (rows .entry)))) 0 (now (flags .entry)) r (now (flags .exit))) ⌝ }
+    requires { ⌜ SomeRoot (now u) row out splits × Starts (now rows) c row × Read (now u) (now rows) (now marks) × (length (now flags) ≡ 4096) ⌝ }
+    ensures { λ r. ⌜ ((k : Kind) (root : Nodes.Node) → Given k root (now (u .entry)) row out splits → Done (backWay (now (rows .entry))) (backNode k root (rowsLeft (now (rows .entry)) (placeOf c / 8))) c (now (flags .entry)) r (now (flags .exit))) ⌝ }
 {
     if out {
-        return edge::node_back(u, rows, flags, marks, 0, row, nodes::depth_above(u));
+        return edge::node_back(u, rows, flags, marks, c, row, nodes::depth_above(u));
     }
     let bound = nodes::bound(u, 0);
     let next = rows;
-    if same_row(next, 0, row) {
-        return inside::leaf(flags, 0, splits);
+    if same_row(next, nodes::place(c), row) {
+        return inside::leaf(flags, c, splits);
     }
     let after = rows;
-    inside::node_back(u, after, flags, marks, 0, row, bound, splits)
+    inside::node_back(u, after, flags, marks, c, row, bound, splits)
 }
 
 // The way back of a whole tree, from the numbers of its root: whole rows become flags in a scratch table.
@@ -60,5 +64,5 @@ pub fn tree_back(
 {
     let mut marks = [4294967295u32; 2048];
     marks::mark_tree(u, rows, &mut marks);
-    root_back(u, rows, flags, &marks, row, out, splits)
+    root_back(u, rows, flags, &marks, 0, row, out, splits)
 }

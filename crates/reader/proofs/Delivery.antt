@@ -23,8 +23,8 @@ use Rattle.unit.specs.Reader.{noneAfter}
 use Rattle.unit.proofs.Parsed.{table-length}
 use Rattle.nodes.specs.State.{placeOf, givenOf, refusal, refusalNumber, refusalPlace}
 use Rattle.walks.specs.Walks.{Says, Done}
-use Rattle.reader.specs.Walking.{rowWords, readWay}
-use Rattle.reader.specs.Delivery.{leafFirst, deliverAll}
+use Rattle.reader.specs.Walking.{rowWords, readWay, leafNext}
+use Rattle.reader.specs.Delivery.{deliverAll}
 use Rattle.reader.proofs.Decided.{none-open}
 
 -- ---- rows as they are stored
@@ -106,7 +106,7 @@ zero-flag true false flags h = refl
 zero-flag false some flags h = clash h refl
 
 -- the number may be any that is 0 where that of the open splits is
-pub leaf-is : (r : Rights) (flags : List ℕ) (splits : ℕ) → eqb splits 0 ≡ eqb (openSplits r) 0 → leafFirst (not (r .within)) splits flags ≡ true → decide r flags 0 ≡ Chosen Leaf (bit (not (eqb splits 0)) 1)
+pub leaf-is : (r : Rights) (flags : List ℕ) (splits : ℕ) → eqb splits 0 ≡ eqb (openSplits r) 0 → leafNext (not (r .within)) splits flags 0 ≡ true → decide r flags 0 ≡ Chosen Leaf (bit (not (eqb splits 0)) 1)
 unfolding decide afterSplit
 leaf-is r flags splits is h =
     let e = is ∙ none-open r in

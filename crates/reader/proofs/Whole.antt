@@ -26,8 +26,8 @@ use Rattle.unit.specs.Reader.{noneAfter, rowsFrom, readTree}
 use Rattle.nodes.specs.State.{givenOf, refusal}
 use Rattle.walks.specs.Rooted.{Rooted}
 use Rattle.walks.specs.Walks.{Says, Done}
-use Rattle.reader.specs.Walking.{readWay, zeroNext}
-use Rattle.reader.specs.Delivery.{leafFirst, leafCount, deliverOne, deliverAll}
+use Rattle.reader.specs.Walking.{readWay, zeroNext, leafNext}
+use Rattle.reader.specs.Delivery.{leafCount, deliverOne, deliverAll}
 use Rattle.reader.proofs.Decided.{none-open}
 use Rattle.reader.proofs.Delivery.{count-small, all-is, leaf-is}
 
@@ -41,10 +41,10 @@ small-refusal a h = go (eqb a 11) refl h
 
 -- ---- the walk of a root
 
--- one inside the picture that is no leaf by its first flag
-pub no-leaf : (flags : List ℕ) {out : Bool} {splits : ℕ} → out ≡ false → leafFirst out splits flags ≡ false → (¬ (splits ≡ 0)) × (zeroNext flags 0 ≡ false)
-no-leaf flags {out} {splits} o h =
-    let g = subst (λ x. leafFirst x splits flags ≡ false) o h in
+-- one inside the picture that is no leaf by its next flag
+pub no-leaf : (flags : List ℕ) (c : ℕ) {out : Bool} {splits : ℕ} → out ≡ false → leafNext out splits flags c ≡ false → (¬ (splits ≡ 0)) × (zeroNext flags c ≡ false)
+no-leaf flags c {out} {splits} o h =
+    let g = subst (λ x. leafNext x splits flags c ≡ false) o h in
     (eqb-false splits 0 (or-none-left (eqb splits 0) _ g), or-none-right (eqb splits 0) _ g)
 
 -- ---- its delivery
@@ -76,14 +76,14 @@ module _ {k : Kind} {root : Node} (r : Rooted k root) (flags : List ℕ) {b z : 
 -- ---- a root that is a leaf
 
 module _ {k : Kind} {root : Node} (r : Rooted k root) (flags : List ℕ) {out : Bool} (o : out ≡ isOut (k .limits) root) (splits : ℕ) where
-  pub leaf-delivered : eqb splits 0 ≡ eqb (openSplits (rightsOf k root)) 0 → leafFirst out splits flags ≡ true → {next : ℕ} → next ≡ leafCount splits → (buffer : List ℕ) {said : Answer} {left : List ℕ}
+  pub leaf-delivered : eqb splits 0 ≡ eqb (openSplits (rightsOf k root)) 0 → leafNext out splits flags 0 ≡ true → {next : ℕ} → next ≡ leafCount splits → (buffer : List ℕ) {said : Answer} {left : List ℕ}
       → Meets (deliverOne root next flags buffer) said left → Meets (readTree k root flags buffer) said left
   unfolding readTree rowsFrom rightsOf
   leaf-delivered is h i buffer {said} {left} m =
       let s = r .placed .sum in
       let w = fold-least (r .placed .good .shape .side Vertical .fold) in
       let within : not (rightsOf k root .within) ≡ isOut (k .limits) root = not-not (isOut (k .limits) root) in
-      let first = subst (λ x. leafFirst x splits flags ≡ true) (o ∙ sym within) h in
+      let first = subst (λ x. leafNext x splits flags 0 ≡ true) (o ∙ sym within) h in
       let run = reading-leaf k flags root (omega arith) 0 (leaf-is (rightsOf k root) flags splits is first) in
       subst (λ x. Meets (finish tableBytes 14 (record { given = x .given; end = noneAfter flags (x .end) }) buffer) said left) (sym run)
       (subst (λ x. Meets (deliverOne root x flags buffer) said left) i m)

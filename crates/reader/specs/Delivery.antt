@@ -1,8 +1,8 @@
 -- The end of a reading as the code takes it: from a root that is a leaf, and from the number that a walk answers.
 use Prim.Native.Nat.{ℕ, _*_}
-use mathlib.Core.Bool.{Bool, not, _&&_, _||_, cond}
+use mathlib.Core.Bool.{not, cond}
 use mathlib.Core.List.{List, [], _∷_, _++_}
-use lib.ListN.{length, getD, take, drop}
+use lib.ListN.{length, take, drop}
 use lib.Dec.{ltb, eqb}
 use Rattle.tree.specs.declared.Node.{Node}
 use Rattle.tree.specs.Splits.{bit}
@@ -13,10 +13,6 @@ use Rattle.unit.specs.declared.Answer.the-variants.{Accepted}
 use Rattle.unit.specs.Answers.{Outcome, refused, finish}
 use Rattle.unit.specs.Reader.{noneAfter}
 use Rattle.nodes.specs.State.{placeOf, givenOf, refusalNumber, refusalPlace}
-
--- the first flag, or the lack of an open split, makes the root a leaf: it lies inside the picture, and its split flag is absent or 0
-abbrev pub leafFirst : Bool → ℕ → List ℕ → Bool
-leafFirst out splits flags = not out && (eqb splits 0 || (ltb 0 (length flags) && eqb (getD flags 0 0) 0))
 
 -- the flags that a leaf has: its split flag, where some split is open
 abbrev pub leafCount : ℕ → ℕ

@@ -1,7 +1,7 @@
 -- The reading as a walk over nodes (crate walks). A call's contract needs none of this.
 use Prim.Native.Nat.{ℕ}
 use mathlib.Core.Path.{_≡_}
-use mathlib.Core.Bool.{Bool, _&&_}
+use mathlib.Core.Bool.{Bool, not, _&&_, _||_}
 use mathlib.Core.List.{List, [], _∷_}
 use lib.ListN.{length, getD}
 use lib.Dec.{ltb, eqb}
@@ -29,3 +29,7 @@ readWay flags = record {
 -- the next flag is 0
 abbrev pub zeroNext : List ℕ → ℕ → Bool
 zeroNext flags c = ltb (placeOf c) (length flags) && eqb (getD flags (placeOf c) 0) 0
+
+-- the next flag, or the lack of an open split, makes a node a leaf: it lies inside the picture, and its split flag is absent or 0
+abbrev pub leafNext : Bool → ℕ → List ℕ → ℕ → Bool
+leafNext out splits flags c = not out && (eqb splits 0 || zeroNext flags c)

@@ -7,11 +7,12 @@ ghost use mathlib.Core.Path.{_≡_};
 ghost use Prim.Native.Nat.{_≤_, _<_};
 ghost use Rattle.unit.specs.Answers.{Meets};
 ghost use Rattle.nodes.specs.State.{givenOf};
-ghost use Rattle.reader.specs.Delivery.{leafFirst, leafCount, deliverOne, deliverAll};
+ghost use Rattle.reader.specs.Walking.{leafNext};
+ghost use Rattle.reader.specs.Delivery.{leafCount, deliverOne, deliverAll};
 
 // Whether the first flag, or the lack of an open split, makes a root a leaf.
 pub(crate) fn is_leaf(out: bool, splits: u32, flags: &[u8]) -> bool
-    ensures { λ r. ⌜ r ≡ leafFirst out splits (now (flags .entry)) ⌝ }
+    ensures { λ r. ⌜ r ≡ leafNext out splits (now (flags .entry)) 0 ⌝ }
 {
     if out {
         return false;

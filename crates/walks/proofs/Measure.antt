@@ -1,5 +1,5 @@
 -- The measure of the walks: the area of the nodes that numbers say.
-use Prim.Native.Nat.{ℕ, _+_, _*_, _/_, _%_, _^_, _≤_}
+use Prim.Native.Nat.{ℕ, _+_, _*_, _/_, _%_, _≤_}
 use mathlib.Core.Path.{_≡_, refl, ap₂}
 use mathlib.Core.List.{List, [], _∷_}
 use native.Mathlib.Omega.{arith}
@@ -8,10 +8,7 @@ use lib.ListN.{length}
 use lib.Pow.{pow-pos}
 use Rattle.tree.specs.declared.Node.{Node}
 use Rattle.laws.specs.Areas.{areasOf}
-use Rattle.walks.specs.Stands.{Word, AllStand, no-more, one-more}
-
-abbrev pub areaIn : ℕ → ℕ
-areaIn row = 2 ^ (row / 4294967296 % 8) * 2 ^ (row / 1099511627776 % 8)
+use Rattle.walks.specs.Stands.{Word, areaIn, AllStand, no-more, one-more}
 
 unfoldable pub areasIn : List Word → ℕ
 areasIn [] = 0

@@ -7,11 +7,11 @@ use native.Mathlib.Omega.{arith}
 use Rattle.tree.specs.declared.Node.{Node}
 use Rattle.tree.specs.Kind.{Kind}
 use Rattle.nodes.specs.RowNodes.{openBelow}
-use Rattle.walks.specs.Stands.{Word, word, Placed}
+use Rattle.walks.specs.Stands.{Word, word, areaIn, Placed}
 use Rattle.walks.specs.Walks.{Way, Asked, Walked}
 use Rattle.walks.proofs.Lawful.{Lawful}
 use Rattle.walks.proofs.Lists.{asked-first, walked-long, walked-stop, asked-rest, walked-rest}
-use Rattle.walks.proofs.Measure.{areaIn, areasIn, some-area, each-area}
+use Rattle.walks.proofs.Measure.{areasIn, some-area, each-area}
 
 -- what is read, among what is asked of a walk
 pub with-read : {F A R L : Type 0} → R → F × (A × L) → F × (A × R × L)

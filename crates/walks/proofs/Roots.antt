@@ -1,5 +1,5 @@
 -- The root of a tree: its numbers stand for it, there is room for all that its walk gives, and its walk is that of the tree.
-use Prim.Native.Nat.{ℕ, _+_, _≤_}
+use Prim.Native.Nat.{ℕ, _+_, _*_, _≤_}
 use mathlib.Core.Path.{_≡_, refl, sym, ap, subst, _∙_}
 use mathlib.Core.Bool.{Bool, true, false, not}
 use mathlib.Core.List.{List, [], _∷_}
@@ -15,15 +15,17 @@ use Rattle.tree.specs.Rows.{rowOf}
 use Rattle.blocks.specs.RowNumbers.{rowWord}
 use Rattle.laws.specs.Areas.{areasOf, spareOf}
 use Rattle.laws.specs.Proper.{Proper, RootSquare}
+use Rattle.laws.proofs.Areas.{least-area}
 use Rattle.laws.proofs.Edge.{good-root}
 use Rattle.laws.proofs.Picture.{starts-in}
 use Rattle.laws.proofs.Runs.{over-one}
+use Rattle.nodes.specs.State.{placeOf, givenOf}
 use Rattle.nodes.specs.Tables.{tableOf, limitsIn}
 use Rattle.nodes.specs.RowNodes.{nodeIn, boundIn, depthAbove}
-use Rattle.walks.specs.Rooted.{Rooted, Given, SomeRoot}
-use Rattle.walks.specs.Stands.{word, Outer, Inside, no-more, one-more}
-use Rattle.walks.specs.Walks.{Way, Room, walkOver, Ready, Done, Asked, Walked}
-use Rattle.walks.proofs.RowFields.{right-says, bottom-says, corner-says}
+use Rattle.walks.specs.Rooted.{Rooted, Given, SomeRoot, RootRoom}
+use Rattle.walks.specs.Stands.{word, areaIn, Outer, Inside, no-more, one-more}
+use Rattle.walks.specs.Walks.{Way, RoomAt, walkOver, Ready, Done, Asked, Walked}
+use Rattle.walks.proofs.RowFields.{area-says, right-says, bottom-says, corner-says}
 use Rattle.walks.proofs.Below.{above-depths}
 
 -- a square root in a picture of at most 16,384 by 16,384, of which the depth fits
@@ -68,13 +70,6 @@ module _ {k : Kind} {n : Node} (r : Rooted k n) where
     bounded = rw root-unlifted;
   }
 
-  -- nothing is read and nothing is given yet: there is room for its tree
-  pub root-room : Room 0 0 (n ∷ [])
-  unfolding areasOf spareOf
-  root-room =
-      let a = mul-le-mul (r .placed .good .shape .side Vertical .most) (r .placed .good .shape .side Horizontal .most) in
-      record { forRows = omega arith; forFlags = omega arith }
-
 -- ---- its walk, from the numbers that the code has
 
 module _ {k : Kind} {root : Node} {u : List ℕ} {row : ℕ} {out : Bool} {splits : ℕ} (g : Given k root u row out splits) where
@@ -93,11 +88,28 @@ module _ {k : Kind} {root : Node} {u : List ℕ} {row : ℕ} {out : Bool} {split
   stands-in : out ≡ false → Inside (boundIn u 0) k root (word row splits)
   stands-in h = rw (g .table, g .row-is, g .splits-are) (in-root (g .rooted) (ap not (sym (g .out-is) ∙ h)))
 
-  module _ {A S : Type 0} (way : Way A S) (s : S) (at : way .at 0 s) (first : (way .rows 0 0 ≡ 0) × (way .flags 0 0 ≡ 0)) where
-    room-here : Room (way .rows 0 0) (way .flags 0 0) (root ∷ [])
-    room-here = rw (first .0, first .1) (root-room (g .rooted))
+  says-area : areaIn row ≡ root .w * root .h
+  says-area = area-says (g .rooted .placed) (g .row-is)
 
-    pub ready-out : out ≡ true → Ready way Outer k (root ∷ []) s u 0 (word row (depthAbove u) ∷ [])
+  -- where nothing is read and nothing is given yet, there is room for its tree
+  pub root-room : RootRoom 0 0 row
+  root-room =
+      let e = says-area in
+      let s = g .rooted .placed .good .shape in
+      let a = mul-le-mul (s .side Vertical .most) (s .side Horizontal .most) in
+      record { forRows = omega arith; forFlags = omega arith }
+
+  module _ {A S : Type 0} (way : Way A S) (s : S) (c : ℕ) (at : way .at (placeOf c) s) (room : RootRoom (way .rows (placeOf c) (givenOf c)) (way .flags (placeOf c) (givenOf c)) row) where
+    room-here : RoomAt way (placeOf c) (givenOf c) (root ∷ [])
+    unfolding areasOf spareOf
+    room-here =
+        let e = says-area in
+        let a = least-area (g .rooted .placed .good .shape) in
+        let q = room .forRows in
+        let f = room .forFlags in
+        record { forRows = omega arith; forFlags = omega arith }
+
+    pub ready-out : out ≡ true → Ready way Outer k (root ∷ []) s u c (word row (depthAbove u) ∷ [])
     ready-out h = record {
       proper = g .rooted .proper;
       table = g .table;
@@ -106,7 +118,7 @@ module _ {k : Kind} {root : Node} {u : List ℕ} {row : ℕ} {out : Bool} {split
       room = room-here;
     }
 
-    pub ready-in : out ≡ false → Ready way (Inside (boundIn u 0)) k (root ∷ []) s u 0 (word row splits ∷ [])
+    pub ready-in : out ≡ false → Ready way (Inside (boundIn u 0)) k (root ∷ []) s u c (word row splits ∷ [])
     ready-in h = record {
       proper = g .rooted .proper;
       table = g .table;
@@ -116,24 +128,24 @@ module _ {k : Kind} {root : Node} {u : List ℕ} {row : ℕ} {out : Bool} {split
     }
 
     -- it is the walk of the node itself
-    pub root-done : {b z : List ℕ} {r : ℕ} → Done way (walkOver way k (root ∷ []) s) 0 b r z → Done way (way .go k root s) 0 b r z
+    pub root-done : {b z : List ℕ} {r : ℕ} → Done way (walkOver way k (root ∷ []) s) c b r z → Done way (way .go k root s) c b r z
     root-done d = rw (over-one k (λ n t. way .go k n t) root s (g .rooted .here)) at d
 
 -- ---- the same of some root, and of every root that the numbers may be given for
 
-module _ {A S : Type 0} (way : Way A S) (s : S) (at : way .at 0 s) (first : (way .rows 0 0 ≡ 0) × (way .flags 0 0 ≡ 0)) {u : List ℕ} {row : ℕ} {out : Bool} {splits : ℕ} where
+module _ {A S : Type 0} (way : Way A S) (s : S) (c : ℕ) (at : way .at (placeOf c) s) {u : List ℕ} {row : ℕ} (room : RootRoom (way .rows (placeOf c) (givenOf c)) (way .flags (placeOf c) (givenOf c)) row) {out : Bool} {splits : ℕ} where
   module _ (o : out ≡ true) {depths : ℕ} (is : depths ≡ depthAbove u) where
-    pub out-asked : SomeRoot u row out splits → Asked way Outer u 0 (word row depths ∷ [])
-    out-asked r = rw is (record { kind = r .kind; nodes = r .root ∷ []; state = s; ready = ready-out (r .given) way s at first o })
+    pub out-asked : SomeRoot u row out splits → Asked way Outer u c (word row depths ∷ [])
+    out-asked r = rw is (record { kind = r .kind; nodes = r .root ∷ []; state = s; ready = ready-out (r .given) way s c at room o })
 
-    pub out-done : {b z : List ℕ} {r : ℕ} → Walked way Outer u 0 (word row depths ∷ []) b r z → (k : Kind) (root : Node) → Given k root u row out splits → Done way (way .go k root s) 0 b r z
+    pub out-done : {b z : List ℕ} {r : ℕ} → Walked way Outer u c (word row depths ∷ []) b r z → (k : Kind) (root : Node) → Given k root u row out splits → Done way (way .go k root s) c b r z
     out-done {b} {z} {r} w k root g =
-        root-done g way s at first (subst (λ (d : ℕ). Walked way Outer u 0 (word row d ∷ []) b r z) is w .done k (root ∷ []) s (ready-out g way s at first o))
+        root-done g way s c at room (subst (λ (d : ℕ). Walked way Outer u c (word row d ∷ []) b r z) is w .done k (root ∷ []) s (ready-out g way s c at room o))
 
   module _ (o : out ≡ false) {bound : ℕ} (is : bound ≡ boundIn u 0) where
-    pub in-asked : SomeRoot u row out splits → Asked way (Inside bound) u 0 (word row splits ∷ [])
-    in-asked r = rw is (record { kind = r .kind; nodes = r .root ∷ []; state = s; ready = ready-in (r .given) way s at first o })
+    pub in-asked : SomeRoot u row out splits → Asked way (Inside bound) u c (word row splits ∷ [])
+    in-asked r = rw is (record { kind = r .kind; nodes = r .root ∷ []; state = s; ready = ready-in (r .given) way s c at room o })
 
-    pub in-done : {b z : List ℕ} {r : ℕ} → Walked way (Inside bound) u 0 (word row splits ∷ []) b r z → (k : Kind) (root : Node) → Given k root u row out splits → Done way (way .go k root s) 0 b r z
+    pub in-done : {b z : List ℕ} {r : ℕ} → Walked way (Inside bound) u c (word row splits ∷ []) b r z → (k : Kind) (root : Node) → Given k root u row out splits → Done way (way .go k root s) c b r z
     in-done {b} {z} {r} w k root g =
-        root-done g way s at first (subst (λ (d : ℕ). Walked way (Inside d) u 0 (word row splits ∷ []) b r z) is w .done k (root ∷ []) s (ready-in g way s at first o))
+        root-done g way s c at room (subst (λ (d : ℕ). Walked way (Inside d) u c (word row splits ∷ []) b r z) is w .done k (root ∷ []) s (ready-in g way s c at room o))

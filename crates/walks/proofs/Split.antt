@@ -18,13 +18,13 @@ use Rattle.laws.proofs.Areas.{kids-areas, kids-spare}
 use Rattle.nodes.specs.State.{placeOf, givenOf}
 use Rattle.nodes.specs.Tables.{limitsIn}
 use Rattle.nodes.specs.RowNodes.{nodeIn}
-use Rattle.walks.specs.Stands.{Word, word, Placed, Inside, Outer, AllStand}
+use Rattle.walks.specs.Stands.{Word, word, areaIn, Placed, Inside, Outer, AllStand}
 use Rattle.walks.specs.Kids.{innerKids, outerKids}
 use Rattle.walks.specs.Walks.{Way, walkOver, Ready, Asked, Walked}
 use Rattle.walks.proofs.AtEdge.{out-is}
 use Rattle.walks.proofs.Children.{inner-kids, outer-kids}
 use Rattle.walks.proofs.Lawful.{Lawful}
-use Rattle.walks.proofs.Measure.{areaIn, areasIn, same-areas}
+use Rattle.walks.proofs.Measure.{areasIn, same-areas}
 use Rattle.walks.proofs.One.{Stored, Case, some-case, each-case, one-split}
 use Rattle.walks.proofs.RowFields.{area-says}
 

@@ -1,5 +1,5 @@
 -- The root of a tree, as the walk of its root needs it: above all cuts, of any QT depth. A call's contract needs none of this.
-use Prim.Native.Nat.{ℕ}
+use Prim.Native.Nat.{ℕ, _+_, _*_, _≤_}
 use mathlib.Core.Path.{_≡_}
 use mathlib.Core.Bool.{Bool, true}
 use mathlib.Core.List.{List}
@@ -11,7 +11,7 @@ use Rattle.tree.specs.Rows.{rowOf}
 use Rattle.blocks.specs.RowNumbers.{rowWord}
 use Rattle.laws.specs.Proper.{Proper}
 use Rattle.nodes.specs.Tables.{tableOf}
-use Rattle.walks.specs.Stands.{Placed}
+use Rattle.walks.specs.Stands.{Placed, areaIn}
 
 pub record Rooted (k : Kind) (root : Node) : Type 0 where
   pub proper : Proper k
@@ -32,3 +32,8 @@ pub record SomeRoot (u : List ℕ) (row : ℕ) (out : Bool) (splits : ℕ) : Typ
   pub kind : Kind
   pub root : Node
   pub given : Given kind root u row out splits
+
+-- A root's walk may begin at any place, after any number given: there is room for its tree behind so many rows and flags.
+pub record RootRoom (rows flags row : ℕ) : Type 0 where
+  pub forRows : 16 * rows + areaIn row ≤ 16384
+  pub forFlags : 4 * flags + areaIn row ≤ 16384

@@ -1,5 +1,5 @@
 -- Which nodes the numbers of a walk stand for. It is what the functions of a walk ask of each other; no call's contract names it.
-use Prim.Native.Nat.{ℕ, _+_, _*_, _≤_, _<_, min}
+use Prim.Native.Nat.{ℕ, _+_, _*_, _/_, _%_, _^_, _≤_, _<_, min}
 use mathlib.Core.Path.{_≡_}
 use mathlib.Core.Bool.{true, not, _&&_}
 use mathlib.Core.List.{List, [], _∷_}
@@ -20,6 +20,10 @@ pub record Word : Type 0 where
 
 abbrev pub word : ℕ → ℕ → Word
 word r k = record { row = r; left = k }
+
+-- the area of the node that a row says
+abbrev pub areaIn : ℕ → ℕ
+areaIn row = 2 ^ (row / 4294967296 % 8) * 2 ^ (row / 1099511627776 % 8)
 
 -- the splits that a node's depths and its parent leave it
 abbrev pub keeps : Limits → Node → Rights

@@ -1,9 +1,16 @@
 use native.Mathlib.Omega.{arith}
 use denote.Ref.{now}
+use Rattle.walks.proofs.Roots.{root-room}
 use Rattle.reader.proofs.Whole.{root-count, root-delivered}
 use borrow.Author.Needs.{needs}
 use Rattle.reader.proofs.read_all.Statement.{statement}
 use Rattle.reader.proofs.read_all.Tie as tie
+
+root-walk-requires : tie.Need-root-walk-requires
+root-walk-requires c κs =
+    let st = c .before .before .before in
+    let some = st .pre .0 in
+    (some, root-room (some .given), st .pre .1, omega arith)
 
 all-rows-requires : tie.Need-all-rows-requires
 all-rows-requires c κs =
@@ -20,4 +27,4 @@ returns c k root g =
     root-delivered (g .rooted) (now (st .args .flags)) (wa .root-walk .ensures k root g) (omega arith) (now (st .args .rows)) (al .all-rows .ensures)
 
 pub read-all-spec : {M : Type 1} → statement M
-read-all-spec = tie.close (tie.spec (λ c κs. search needs) all-rows-requires (λ c. search needs) returns)
+read-all-spec = tie.close (tie.spec root-walk-requires all-rows-requires (λ c. search needs) returns)

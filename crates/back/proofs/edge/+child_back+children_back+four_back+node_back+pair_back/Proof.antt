@@ -9,14 +9,14 @@ use Rattle.tree.specs.declared.Decision.the-variants.{Quad}
 use Rattle.tree.specs.Splits.{rightOut, bottomOut, rightsIn, allows}
 use Rattle.nodes.specs.Tables.{limitsIn}
 use Rattle.nodes.specs.RowNodes.{nodeIn, childRow, outIn}
-use Rattle.walks.specs.Stands.{Word, word, Outer}
+use Rattle.walks.specs.Stands.{Word, word, areaIn, Outer}
 use Rattle.walks.specs.Kids.{fourWords, outerKids}
 use Rattle.walks.proofs.Apart.{tested-not, tested-or, was-walked, was-refused}
 use Rattle.walks.proofs.AtEdge.{out-splits-is, edge-gone, handed-asked, handed-walked}
 use Rattle.walks.proofs.Children.{outer-placed}
 use Rattle.walks.proofs.KidWords.{out-none, out-four, out-two, out-three}
 use Rattle.walks.proofs.Lists.{none-walked}
-use Rattle.walks.proofs.Measure.{areaIn, areasIn}
+use Rattle.walks.proofs.Measure.{areasIn}
 use Rattle.walks.proofs.Progress.{with-read, same-word, same-asked, same-walked, Progress, begun, last, ended, next-child, refused, walked}
 use Rattle.walks.proofs.Split.{Split, kids-asked, walked-kids}
 use Rattle.back.specs.Walking.{backWay}

@@ -8,13 +8,13 @@ use borrow.Author.Needs.{needs}
 use Rattle.tree.specs.declared.Decision.the-variants.{Quad, Binary, Ternary}
 use Rattle.tree.specs.Splits.{rightsIn, allows}
 use Rattle.nodes.specs.RowNodes.{childRow, cutsOf, openBelow}
-use Rattle.walks.specs.Stands.{Word, word, Inside}
+use Rattle.walks.specs.Stands.{Word, word, areaIn, Inside}
 use Rattle.walks.specs.Kids.{innerKids}
 use Rattle.walks.specs.Walks.{Asked}
 use Rattle.walks.proofs.Apart.{tested-not, was-walked, was-refused}
 use Rattle.walks.proofs.Children.{inside-placed}
 use Rattle.walks.proofs.Lists.{none-walked}
-use Rattle.walks.proofs.Measure.{areaIn, areasIn}
+use Rattle.walks.proofs.Measure.{areasIn}
 use Rattle.walks.proofs.Progress.{with-read, same-open, same-word, same-asked, same-walked, Progress, begun, last, ended, next-child, refused, walked}
 use Rattle.walks.proofs.Split.{Split, kids-asked, walked-kids}
 use Rattle.back.specs.Walking.{backWay}

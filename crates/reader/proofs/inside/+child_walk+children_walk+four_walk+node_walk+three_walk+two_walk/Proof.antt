@@ -12,13 +12,13 @@ use Rattle.tree.specs.Splits.{rightsIn}
 use Rattle.tree.specs.Flags.{flagAt, afterSplit}
 use Rattle.nodes.specs.State.{placeOf}
 use Rattle.nodes.specs.RowNodes.{childRow, cutsOf, openBelow}
-use Rattle.walks.specs.Stands.{Word, word, Inside}
+use Rattle.walks.specs.Stands.{Word, word, areaIn, Inside}
 use Rattle.walks.specs.Kids.{innerKids}
 use Rattle.walks.specs.Walks.{Asked}
 use Rattle.walks.proofs.Apart.{was-walked, was-refused}
 use Rattle.walks.proofs.Children.{inside-placed}
 use Rattle.walks.proofs.Lists.{none-walked}
-use Rattle.walks.proofs.Measure.{areaIn, areasIn}
+use Rattle.walks.proofs.Measure.{areasIn}
 use Rattle.walks.proofs.Progress.{same-open, same-word, same-asked, same-walked, Progress, begun, last, ended, next-child, refused, walked}
 use Rattle.walks.proofs.Split.{Split, inner-split, kids-asked, walked-kids}
 use Rattle.reader.specs.Walking.{readWay}
