@@ -23,9 +23,9 @@ use Rattle.unit.specs.Reader.{noneAfter}
 use Rattle.unit.proofs.Parsed.{table-length}
 use Rattle.nodes.specs.State.{placeOf, givenOf, refusal, refusalNumber, refusalPlace}
 use Rattle.walks.specs.Walks.{Says, Done}
-use Rattle.reader.specs.Walking.{rowWords, readWay, leafNext}
+use Rattle.parser.specs.Walking.{rowWords, readWay, leafNext}
 use Rattle.reader.specs.Delivery.{deliverAll}
-use Rattle.reader.proofs.Decided.{none-open}
+use Rattle.parser.proofs.Decided.{none-open}
 
 -- ---- rows as they are stored
 

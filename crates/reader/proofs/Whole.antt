@@ -7,8 +7,8 @@ use native.Mathlib.Omega.{arith}
 use native.Mathlib.Nat.{mul-le-mul}
 use lib.ListN.{length}
 use lib.Dec.{eqb}
-use borrow.Author.Tests.{eqb-true, eqb-false, lt-ltb}
-use Rattle.sides.proofs.Bools.{not-not, or-none-left, or-none-right}
+use borrow.Author.Tests.{eqb-true, lt-ltb}
+use Rattle.sides.proofs.Bools.{not-not}
 use Rattle.tree.specs.declared.Limits.{Limits}
 use Rattle.tree.specs.declared.Node.{Node}
 use Rattle.tree.specs.declared.Direction.the-variants.{Horizontal, Vertical}
@@ -26,9 +26,9 @@ use Rattle.unit.specs.Reader.{noneAfter, rowsFrom, readTree}
 use Rattle.nodes.specs.State.{givenOf, refusal}
 use Rattle.walks.specs.Rooted.{Rooted}
 use Rattle.walks.specs.Walks.{Says, Done}
-use Rattle.reader.specs.Walking.{readWay, zeroNext, leafNext}
+use Rattle.parser.specs.Walking.{readWay, leafNext}
 use Rattle.reader.specs.Delivery.{leafCount, deliverOne, deliverAll}
-use Rattle.reader.proofs.Decided.{none-open}
+use Rattle.parser.proofs.Decided.{none-open}
 use Rattle.reader.proofs.Delivery.{count-small, all-is, leaf-is}
 
 -- 11 and 12 are below 32
@@ -39,15 +39,7 @@ small-refusal a h = go (eqb a 11) refl h
     go true e h = let f = eqb-true a 11 e in omega arith
     go false e h = let f = eqb-true a 12 h in omega arith
 
--- ---- the walk of a root
-
--- one inside the picture that is no leaf by its next flag
-pub no-leaf : (flags : List ℕ) (c : ℕ) {out : Bool} {splits : ℕ} → out ≡ false → leafNext out splits flags c ≡ false → (¬ (splits ≡ 0)) × (zeroNext flags c ≡ false)
-no-leaf flags c {out} {splits} o h =
-    let g = subst (λ x. leafNext x splits flags c ≡ false) o h in
-    (eqb-false splits 0 (or-none-left (eqb splits 0) _ g), or-none-right (eqb splits 0) _ g)
-
--- ---- its delivery
+-- ---- the delivery of a walk
 
 module _ {k : Kind} {root : Node} (r : Rooted k root) (flags : List ℕ) {b z : List ℕ} {answer : ℕ} (done : Done (readWay flags) (readNode k flags root 0) 0 b answer z) where
   few : 16 * length (readNode k flags root 0 .given) ≤ 16384

@@ -1,2 +1,1 @@
-pub mod Walking
 pub mod Delivery

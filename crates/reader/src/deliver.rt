@@ -1,13 +1,13 @@
 // The end of a reading: refusals 13 and 14, or its rows in the lent buffer. Nothing is written before both are passed.
-use crate::scratch::Scratch;
 use nodes::Child;
+use parser::Scratch;
 use tree::Node;
 use unit::Answer;
 ghost use mathlib.Core.Path.{_≡_};
 ghost use Prim.Native.Nat.{_≤_, _<_};
 ghost use Rattle.unit.specs.Answers.{Meets};
 ghost use Rattle.nodes.specs.State.{givenOf};
-ghost use Rattle.reader.specs.Walking.{leafNext};
+ghost use Rattle.parser.specs.Walking.{leafNext};
 ghost use Rattle.reader.specs.Delivery.{leafCount, deliverOne, deliverAll};
 
 // Whether the first flag, or the lack of an open split, makes a root a leaf.

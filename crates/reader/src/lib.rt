@@ -1,11 +1,7 @@
 // The reader of a single unit: flags become rows, or document 01's refusals 1 to 14.
 mod deliver;
-mod edge;
-mod inside;
-mod scratch;
 
 use nodes::Table;
-use scratch::Scratch;
 use settings::Located;
 use settings::Settings;
 use tree::Limits;
@@ -13,36 +9,12 @@ use tree::Node;
 use unit::Answer;
 ghost use mathlib.Core.Path.{_≡_};
 ghost use mathlib.Core.Bool.{false};
-ghost use lib.ListN.{length};
 ghost use Rattle.tree.specs.Kind.{Kind, luma};
-ghost use Rattle.tree.specs.Reading.{readNode};
 ghost use Rattle.tree.specs.declared.Node as Nodes;
 ghost use Rattle.unit.specs.Answers.{Meets};
 ghost use Rattle.unit.specs.Reader.{readTree, readUnit};
-ghost use Rattle.nodes.specs.State.{placeOf, givenOf};
-ghost use Rattle.walks.specs.Rooted.{Rooted, Given, SomeRoot, RootRoom};
-ghost use Rattle.walks.specs.Walks.{Done};
-ghost use Rattle.reader.specs.Walking.{readWay, leafNext};
-
-// The walk of a root that is no leaf, from any place of the flags. One that is out is above all cuts, as a child of a
-// quad split is.
-fn root_walk(
-    u: &Table,
-    flags: &[u8],
-    rows: &mut Scratch,
-    c: u64,
-    row: u64,
-    out: bool,
-    splits: u32,
-) -> u64
-    requires { ⌜ SomeRoot (now u) row out splits × RootRoom (givenOf c) (placeOf c) row × (leafNext out splits (now flags) c ≡ false) × (length (now rows) ≡ 1024) ⌝ }
-    ensures { λ r. ⌜ ((k : Kind) (root : Nodes.Node) → Given k root (now (u .entry)) row out splits → Done (readWay (now (flags .entry))) (readNode k (now (flags .entry)) root (placeOf c)) c (now (rows .entry)) r (now (rows .exit))) ⌝ }
-{
-    if out {
-        return edge::node_walk(u, flags, rows, c, row, nodes::depth_above(u));
-    }
-    inside::node_walk(u, flags, rows, c, row, nodes::bound(u, 0), splits)
-}
+ghost use Rattle.walks.specs.Rooted.{Rooted, Given, SomeRoot};
+ghost use Rattle.parser.specs.Walking.{leafNext};
 
 // The reading of a whole tree by a walk into a scratch table of 1,024 rows.
 fn read_all(u: &Table, row: u64, out: bool, splits: u32, flags: &[u8], rows: &mut [u8]) -> Answer
@@ -50,7 +22,7 @@ fn read_all(u: &Table, row: u64, out: bool, splits: u32, flags: &[u8], rows: &mu
     ensures { λ r. ⌜ ((k : Kind) (root : Nodes.Node) → Given k root (now (u .entry)) row out splits → Meets (readTree k root (now (flags .entry)) (now (rows .entry))) r (now (rows .exit))) ⌝ }
 {
     let mut scratch = [0u64; 1024];
-    let answer = root_walk(u, flags, &mut scratch, 0, row, out, splits);
+    let answer = parser::root_walk(u, flags, &mut scratch, 0, row, out, splits);
     deliver::all_rows(answer, &scratch, flags, rows)
 }
 

@@ -17,7 +17,7 @@ ghost use Rattle.nodes.specs.RowNodes.{nodeIn};
 ghost use Rattle.walks.specs.Stands.{word, Outer};
 ghost use Rattle.walks.specs.Kids.{fourWords, outerKids};
 ghost use Rattle.walks.specs.Walks.{Asked, Walked};
-ghost use Rattle.reader.specs.Walking.{readWay};
+ghost use Rattle.parser.specs.Walking.{readWay};
 
 // A child of a node that is out; one whose corner is outside the picture is skipped.
 pub(crate) fn child_walk(

@@ -20,28 +20,28 @@ use Rattle.walks.proofs.Lists.{none-walked}
 use Rattle.walks.proofs.Measure.{areasIn}
 use Rattle.walks.proofs.Progress.{same-word, same-asked, same-walked, Progress, begun, last, ended, next-child, refused, walked}
 use Rattle.walks.proofs.Split.{Split, outer-split, kids-asked, walked-kids}
-use Rattle.reader.specs.Walking.{readWay}
-use Rattle.reader.proofs.Way.{read-lawful, none-stored}
-use Rattle.reader.proofs.Seen.{moves, walked-refused, turned}
-use Rattle.reader.proofs.Decided.{out-splits, out-sees}
+use Rattle.parser.specs.Walking.{readWay}
+use Rattle.parser.proofs.Way.{read-lawful, none-stored}
+use Rattle.parser.proofs.Seen.{moves, walked-refused, turned}
+use Rattle.parser.proofs.Decided.{out-splits, out-sees}
 use Rattle.walks.proofs.KidWords.{out-none, out-four, out-two, out-three}
 use borrow.Fn.Kinds.{In}
 use borrow.Fn.PlainCycle.{Measures, is, falls, and}
-use Rattle.reader.proofs.edge.child_walk.Reads as child-walk
-use Rattle.reader.proofs.edge.child_walk.Kinds as child-walk-kinds
-use Rattle.reader.proofs.edge.+child_walk+children_walk+four_walk+node_walk+pair_walk.Lts-child_walk as child-walk-lts
-use Rattle.reader.proofs.edge.children_walk.Reads as children-walk
-use Rattle.reader.proofs.edge.children_walk.Kinds as children-walk-kinds
-use Rattle.reader.proofs.edge.+child_walk+children_walk+four_walk+node_walk+pair_walk.Lts-children_walk as children-walk-lts
-use Rattle.reader.proofs.edge.four_walk.Reads as four-walk
-use Rattle.reader.proofs.edge.four_walk.Kinds as four-walk-kinds
-use Rattle.reader.proofs.edge.+child_walk+children_walk+four_walk+node_walk+pair_walk.Lts-four_walk as four-walk-lts
-use Rattle.reader.proofs.edge.node_walk.Reads as node-walk
-use Rattle.reader.proofs.edge.node_walk.Kinds as node-walk-kinds
-use Rattle.reader.proofs.edge.+child_walk+children_walk+four_walk+node_walk+pair_walk.Lts-node_walk as node-walk-lts
-use Rattle.reader.proofs.edge.pair_walk.Reads as pair-walk
-use Rattle.reader.proofs.edge.pair_walk.Kinds as pair-walk-kinds
-use Rattle.reader.proofs.edge.+child_walk+children_walk+four_walk+node_walk+pair_walk.Lts-pair_walk as pair-walk-lts
+use Rattle.parser.proofs.edge.child_walk.Reads as child-walk
+use Rattle.parser.proofs.edge.child_walk.Kinds as child-walk-kinds
+use Rattle.parser.proofs.edge.+child_walk+children_walk+four_walk+node_walk+pair_walk.Lts-child_walk as child-walk-lts
+use Rattle.parser.proofs.edge.children_walk.Reads as children-walk
+use Rattle.parser.proofs.edge.children_walk.Kinds as children-walk-kinds
+use Rattle.parser.proofs.edge.+child_walk+children_walk+four_walk+node_walk+pair_walk.Lts-children_walk as children-walk-lts
+use Rattle.parser.proofs.edge.four_walk.Reads as four-walk
+use Rattle.parser.proofs.edge.four_walk.Kinds as four-walk-kinds
+use Rattle.parser.proofs.edge.+child_walk+children_walk+four_walk+node_walk+pair_walk.Lts-four_walk as four-walk-lts
+use Rattle.parser.proofs.edge.node_walk.Reads as node-walk
+use Rattle.parser.proofs.edge.node_walk.Kinds as node-walk-kinds
+use Rattle.parser.proofs.edge.+child_walk+children_walk+four_walk+node_walk+pair_walk.Lts-node_walk as node-walk-lts
+use Rattle.parser.proofs.edge.pair_walk.Reads as pair-walk
+use Rattle.parser.proofs.edge.pair_walk.Kinds as pair-walk-kinds
+use Rattle.parser.proofs.edge.+child_walk+children_walk+four_walk+node_walk+pair_walk.Lts-pair_walk as pair-walk-lts
 use Rattle.flags.proofs.decide_out.Reads as decide-out-reads
 use Rattle.nodes.proofs.bound.Reads as bound-reads
 use Rattle.nodes.proofs.depth_above.Reads as depth-above-reads
@@ -58,11 +58,11 @@ use Rattle.nodes.proofs.child_answer.Reads as child-answer-reads
 use Rattle.nodes.proofs.moved_to.Reads as moved-to-reads
 use Rattle.nodes.proofs.place.Reads as place-reads
 use Rattle.nodes.proofs.refusal.Reads as refusal-reads
-use Rattle.reader.proofs.inside.child_walk.Reads as child-walk-reads
-use Rattle.reader.proofs.edge.+child_walk+children_walk+four_walk+node_walk+pair_walk.{
+use Rattle.parser.proofs.inside.child_walk.Reads as child-walk-reads
+use Rattle.parser.proofs.edge.+child_walk+children_walk+four_walk+node_walk+pair_walk.{
   statement,
 }
-use Rattle.reader.proofs.edge.+child_walk+children_walk+four_walk+node_walk+pair_walk.Tie.{
+use Rattle.parser.proofs.edge.+child_walk+children_walk+four_walk+node_walk+pair_walk.Tie.{
   close,
 }
 

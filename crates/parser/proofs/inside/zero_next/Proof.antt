@@ -1,8 +1,8 @@
 use denote.Ref.{now}
 use borrow.Author.Needs.{needs}
-use Rattle.reader.proofs.Decided.{zero-read, zero-past}
-use Rattle.reader.proofs.inside.zero_next.Statement.{statement}
-use Rattle.reader.proofs.inside.zero_next.Tie as tie
+use Rattle.parser.proofs.Decided.{zero-read, zero-past}
+use Rattle.parser.proofs.inside.zero_next.Statement.{statement}
+use Rattle.parser.proofs.inside.zero_next.Tie as tie
 
 returns : tie.Need-returns
 returns c =

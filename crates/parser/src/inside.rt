@@ -17,7 +17,7 @@ ghost use Rattle.walks.specs.Stands.{word, Inside};
 ghost use Rattle.tree.specs.declared.Decision.the-variants.{Quad, Binary, Ternary};
 ghost use Rattle.walks.specs.Kids.{innerKids};
 ghost use Rattle.walks.specs.Walks.{Asked, Walked};
-ghost use Rattle.reader.specs.Walking.{readWay, zeroNext};
+ghost use Rattle.parser.specs.Walking.{readWay, zeroNext};
 
 // Whether the next flag is 0.
 fn zero_next(flags: &[u8], c: u64) -> bool

@@ -16,7 +16,7 @@ use Rattle.walks.specs.Stands.{Placed}
 use Rattle.walks.specs.Walks.{walkOver}
 use Rattle.walks.proofs.Lawful.{Lawful}
 use Rattle.walks.proofs.One.{here-or-gone}
-use Rattle.reader.specs.Walking.{rowWords, readWay}
+use Rattle.parser.specs.Walking.{rowWords, readWay}
 
 words-append : (first rest : List Row) → rowWords (first ++ rest) ≡ rowWords first ++ rowWords rest
 unfolding rowWords

@@ -1,11 +1,11 @@
 use mathlib.Core.Path.{refl}
 use denote.Ref.{now}
 use Rattle.walks.proofs.Roots.{root-begins, root-out, out-asked, out-done, in-asked, in-done}
-use Rattle.reader.specs.Walking.{readWay}
-use Rattle.reader.proofs.Whole.{no-leaf}
+use Rattle.parser.specs.Walking.{readWay}
+use Rattle.parser.proofs.Decided.{no-leaf}
 use borrow.Author.Needs.{needs}
-use Rattle.reader.proofs.root_walk.Statement.{statement}
-use Rattle.reader.proofs.root_walk.Tie as tie
+use Rattle.parser.proofs.root_walk.Statement.{statement}
+use Rattle.parser.proofs.root_walk.Tie as tie
 
 node-walk-requires : tie.Need-node-walk-requires
 node-walk-requires c κs =

@@ -21,30 +21,30 @@ use Rattle.walks.proofs.Lists.{none-walked}
 use Rattle.walks.proofs.Measure.{areasIn}
 use Rattle.walks.proofs.Progress.{same-open, same-word, same-asked, same-walked, Progress, begun, last, ended, next-child, refused, walked}
 use Rattle.walks.proofs.Split.{Split, inner-split, kids-asked, walked-kids}
-use Rattle.reader.specs.Walking.{readWay}
-use Rattle.reader.proofs.Way.{read-lawful, none-stored}
-use Rattle.reader.proofs.Seen.{row-fits, moves, moves-one, walked-refused, walked-leaf, turned}
-use Rattle.reader.proofs.Decided.{shut-sees, open-sees, zero-sees, end-sees, first-splits}
+use Rattle.parser.specs.Walking.{readWay}
+use Rattle.parser.proofs.Way.{read-lawful, none-stored}
+use Rattle.parser.proofs.Seen.{row-fits, moves, moves-one, walked-refused, walked-leaf, turned}
+use Rattle.parser.proofs.Decided.{shut-sees, open-sees, zero-sees, end-sees, first-splits}
 use borrow.Fn.Kinds.{In}
 use borrow.Fn.PlainCycle.{Measures, is, falls, and}
-use Rattle.reader.proofs.inside.child_walk.Reads as child-walk
-use Rattle.reader.proofs.inside.child_walk.Kinds as child-walk-kinds
-use Rattle.reader.proofs.inside.+child_walk+children_walk+four_walk+node_walk+three_walk+two_walk.Lts-child_walk as child-walk-lts
-use Rattle.reader.proofs.inside.children_walk.Reads as children-walk
-use Rattle.reader.proofs.inside.children_walk.Kinds as children-walk-kinds
-use Rattle.reader.proofs.inside.+child_walk+children_walk+four_walk+node_walk+three_walk+two_walk.Lts-children_walk as children-walk-lts
-use Rattle.reader.proofs.inside.four_walk.Reads as four-walk
-use Rattle.reader.proofs.inside.four_walk.Kinds as four-walk-kinds
-use Rattle.reader.proofs.inside.+child_walk+children_walk+four_walk+node_walk+three_walk+two_walk.Lts-four_walk as four-walk-lts
-use Rattle.reader.proofs.inside.node_walk.Reads as node-walk
-use Rattle.reader.proofs.inside.node_walk.Kinds as node-walk-kinds
-use Rattle.reader.proofs.inside.+child_walk+children_walk+four_walk+node_walk+three_walk+two_walk.Lts-node_walk as node-walk-lts
-use Rattle.reader.proofs.inside.three_walk.Reads as three-walk
-use Rattle.reader.proofs.inside.three_walk.Kinds as three-walk-kinds
-use Rattle.reader.proofs.inside.+child_walk+children_walk+four_walk+node_walk+three_walk+two_walk.Lts-three_walk as three-walk-lts
-use Rattle.reader.proofs.inside.two_walk.Reads as two-walk
-use Rattle.reader.proofs.inside.two_walk.Kinds as two-walk-kinds
-use Rattle.reader.proofs.inside.+child_walk+children_walk+four_walk+node_walk+three_walk+two_walk.Lts-two_walk as two-walk-lts
+use Rattle.parser.proofs.inside.child_walk.Reads as child-walk
+use Rattle.parser.proofs.inside.child_walk.Kinds as child-walk-kinds
+use Rattle.parser.proofs.inside.+child_walk+children_walk+four_walk+node_walk+three_walk+two_walk.Lts-child_walk as child-walk-lts
+use Rattle.parser.proofs.inside.children_walk.Reads as children-walk
+use Rattle.parser.proofs.inside.children_walk.Kinds as children-walk-kinds
+use Rattle.parser.proofs.inside.+child_walk+children_walk+four_walk+node_walk+three_walk+two_walk.Lts-children_walk as children-walk-lts
+use Rattle.parser.proofs.inside.four_walk.Reads as four-walk
+use Rattle.parser.proofs.inside.four_walk.Kinds as four-walk-kinds
+use Rattle.parser.proofs.inside.+child_walk+children_walk+four_walk+node_walk+three_walk+two_walk.Lts-four_walk as four-walk-lts
+use Rattle.parser.proofs.inside.node_walk.Reads as node-walk
+use Rattle.parser.proofs.inside.node_walk.Kinds as node-walk-kinds
+use Rattle.parser.proofs.inside.+child_walk+children_walk+four_walk+node_walk+three_walk+two_walk.Lts-node_walk as node-walk-lts
+use Rattle.parser.proofs.inside.three_walk.Reads as three-walk
+use Rattle.parser.proofs.inside.three_walk.Kinds as three-walk-kinds
+use Rattle.parser.proofs.inside.+child_walk+children_walk+four_walk+node_walk+three_walk+two_walk.Lts-three_walk as three-walk-lts
+use Rattle.parser.proofs.inside.two_walk.Reads as two-walk
+use Rattle.parser.proofs.inside.two_walk.Kinds as two-walk-kinds
+use Rattle.parser.proofs.inside.+child_walk+children_walk+four_walk+node_walk+three_walk+two_walk.Lts-two_walk as two-walk-lts
 use Rattle.flags.proofs.decide_inside.Reads as decide-inside-reads
 use Rattle.nodes.proofs.middle_cuts.Reads as middle-cuts-reads
 use Rattle.nodes.proofs.open_below.Reads as open-below-reads
@@ -59,12 +59,12 @@ use Rattle.nodes.proofs.further.Reads as further-reads
 use Rattle.nodes.proofs.moved_to.Reads as moved-to-reads
 use Rattle.nodes.proofs.place.Reads as place-reads
 use Rattle.nodes.proofs.refusal.Reads as refusal-reads
-use Rattle.reader.proofs.inside.leaf.Reads as leaf-reads
-use Rattle.reader.proofs.inside.zero_next.Reads as zero-next-reads
-use Rattle.reader.proofs.inside.+child_walk+children_walk+four_walk+node_walk+three_walk+two_walk.{
+use Rattle.parser.proofs.inside.leaf.Reads as leaf-reads
+use Rattle.parser.proofs.inside.zero_next.Reads as zero-next-reads
+use Rattle.parser.proofs.inside.+child_walk+children_walk+four_walk+node_walk+three_walk+two_walk.{
   statement,
 }
-use Rattle.reader.proofs.inside.+child_walk+children_walk+four_walk+node_walk+three_walk+two_walk.Tie.{
+use Rattle.parser.proofs.inside.+child_walk+children_walk+four_walk+node_walk+three_walk+two_walk.Tie.{
   close,
 }
 

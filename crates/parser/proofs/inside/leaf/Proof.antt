@@ -3,8 +3,8 @@ use mathlib.Core.Path.{ap}
 use lib.ListN.{set}
 use denote.Ref.{now}
 use borrow.Author.Needs.{needs}
-use Rattle.reader.proofs.inside.leaf.Statement.{statement}
-use Rattle.reader.proofs.inside.leaf.Tie as tie
+use Rattle.parser.proofs.inside.leaf.Statement.{statement}
+use Rattle.parser.proofs.inside.leaf.Tie as tie
 
 returns : tie.Need-returns
 returns c = (c .one-more .ensures, ap (λ (i : ℕ). set (now (c .before .before .args .rows)) i (c .before .before .args .row)) (c .before .count .ensures .0))

@@ -7,7 +7,7 @@ use native.Mathlib.Omega.{arith}
 use lib.ListN.{length, getD}
 use lib.Dec.{leb, ltb, eqb}
 use borrow.Author.Tests.{eqb-true, eqb-false, leb-true, lt-ltb, le-ltb}
-use Rattle.sides.proofs.Bools.{and-left, and-right, same, same-eq, forFive, at-five}
+use Rattle.sides.proofs.Bools.{and-left, and-right, or-none-left, or-none-right, same, same-eq, forFive, at-five}
 use Rattle.tree.specs.declared.Direction.{Direction}
 use Rattle.tree.specs.declared.Direction.the-variants.{Horizontal, Vertical}
 use Rattle.tree.specs.declared.Node.{Node}
@@ -33,8 +33,8 @@ use Rattle.walks.specs.Stands.{word, Inside, Outer}
 use Rattle.walks.proofs.Open.{inside-rights, out-rights, out-one-cut}
 use Rattle.walks.proofs.AtEdge.{corner-is, right-is, bottom-is, out-is}
 use Rattle.walks.proofs.One.{Case}
-use Rattle.reader.specs.Walking.{readWay, zeroNext}
-use Rattle.reader.proofs.Seen.{Seen, Sees}
+use Rattle.parser.specs.Walking.{readWay, zeroNext, leafNext}
+use Rattle.parser.proofs.Seen.{Seen, Sees}
 
 -- ---- open splits as a number
 
@@ -182,3 +182,10 @@ module _ {u flags : List ℕ} {c row depths : ℕ} (begins : cornerInside (limit
             says = o .row;
             decides = rw rights (sym (out-decides _ flags (one .0) (one .1) (placeOf c) (one .2) still) ∙ rw (right-is (x .table) o, bottom-is (x .table) o, x .table) at e);
           }
+
+-- ---- a root inside the picture that is no leaf by its next flag
+
+pub no-leaf : (flags : List ℕ) (c : ℕ) {out : Bool} {splits : ℕ} → out ≡ false → leafNext out splits flags c ≡ false → (¬ (splits ≡ 0)) × (zeroNext flags c ≡ false)
+no-leaf flags c {out} {splits} o h =
+    let g = subst (λ x. leafNext x splits flags c ≡ false) o h in
+    (eqb-false splits 0 (or-none-left (eqb splits 0) _ g), or-none-right (eqb splits 0) _ g)

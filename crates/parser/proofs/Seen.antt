@@ -29,8 +29,8 @@ use Rattle.walks.specs.Walks.{walkOver, Done, Asked, Walked}
 use Rattle.walks.proofs.One.{Case, some-case, each-case, nothing-stored, one-refused, one-done}
 use Rattle.walks.proofs.RowFields.{shallow}
 use Rattle.walks.proofs.Split.{Turn}
-use Rattle.reader.specs.Walking.{rowWords, readWay}
-use Rattle.reader.proofs.Way.{none-stored}
+use Rattle.parser.specs.Walking.{rowWords, readWay}
+use Rattle.parser.proofs.Way.{none-stored}
 
 -- a node that begins inside the picture, its row, and what the flags from a place on decide
 pub record Seen (k : Kind) (n : Node) (row : ℕ) (flags : List ℕ) (at : ℕ) (choice : Choice) : Type 0 where

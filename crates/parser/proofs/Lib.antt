@@ -1,0 +1,3 @@
+pub mod Way
+pub mod Seen
+pub mod Decided
