@@ -30,11 +30,11 @@ use Rattle.walks.specs.Stands.{word, Placed, Inside, Outer}
 use Rattle.walks.proofs.AtEdge.{corner-is, right-is, bottom-is, out-is}
 use Rattle.walks.proofs.Open.{inside-rights, out-rights}
 use Rattle.walks.proofs.RowFields.{fits, row-says, width-says, height-says, area-says}
-use Rattle.back.specs.Table.{rowsLeft, wordAt, Eight}
-use Rattle.back.specs.Marks.{Begins, isCut, Divided}
-use Rattle.back.specs.Walking.{Read}
+use Rattle.marks.specs.Table.{rowsLeft, wordAt, Eight}
+use Rattle.marks.specs.Marks.{Begins, isCut, Divided, Read}
+use Rattle.back.specs.Walking.{}
 use Rattle.back.proofs.Decisions.{own-next, inside-next, out-next}
-use Rattle.back.proofs.RowWords.{same-word, other-word, word-qt}
+use Rattle.marks.proofs.RowWords.{same-word, other-word, word-qt}
 use Rattle.back.proofs.Turned.{Seen, At, Sees, next-row}
 
 -- ---- cuts where M is 0

@@ -1,8 +1,3 @@
-pub mod RowWords
-pub mod NextRows
-pub mod Corners
-pub mod Marking
-pub mod Found
 pub mod Decisions
 pub mod Way
 pub mod Turned

@@ -32,11 +32,11 @@ use Rattle.walks.proofs.MaskLaws.{splits-small}
 use Rattle.walks.proofs.One.{Stored, some-case}
 use Rattle.walks.proofs.Open.{out-one-cut}
 use Rattle.walks.proofs.Split.{Split, inner-split, outer-split}
-use Rattle.back.specs.Table.{wordAt, Eight, Same}
-use Rattle.back.specs.Marks.{Divided}
+use Rattle.marks.specs.Table.{wordAt, Eight, Same}
+use Rattle.marks.specs.Marks.{Divided, Read}
 use Rattle.flags.specs.Puts.{Follows}
-use Rattle.back.specs.Walking.{backWay, Read, ownNext}
-use Rattle.back.proofs.NextRows.{rows-cells}
+use Rattle.back.specs.Walking.{backWay, ownNext}
+use Rattle.marks.proofs.NextRows.{rows-cells}
 use Rattle.back.proofs.Turned.{Sees, walked-none, walked-closed, walked-leaf, turned}
 use Rattle.back.proofs.Decided.{own-sees, split-sees, split-shut, out-sees}
 

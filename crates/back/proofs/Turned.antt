@@ -24,10 +24,10 @@ use Rattle.walks.specs.Walks.{walkOver, Done, Walked}
 use Rattle.walks.proofs.One.{Stored, Case, each-case, one-refused, one-done}
 use Rattle.walks.proofs.RowFields.{shallow}
 use Rattle.walks.proofs.Split.{Turn}
-use Rattle.back.specs.Table.{rowsLeft}
-use Rattle.back.specs.Marks.{cellsBefore}
+use Rattle.marks.specs.Table.{rowsLeft}
+use Rattle.marks.specs.Marks.{cellsBefore}
 use Rattle.back.specs.Walking.{Left, backWay}
-use Rattle.back.proofs.NextRows.{from-next, from-end}
+use Rattle.marks.proofs.NextRows.{from-next, from-end}
 
 -- ---- the rows that are left at a place
 

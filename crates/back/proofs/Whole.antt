@@ -11,7 +11,7 @@ use Rattle.tree.specs.Back.{backNode}
 use Rattle.nodes.specs.State.{placeOf}
 use Rattle.walks.specs.Rooted.{RootRoom}
 use Rattle.walks.specs.Walks.{Done}
-use Rattle.back.specs.Table.{rowsLeft}
+use Rattle.marks.specs.Table.{rowsLeft}
 use Rattle.back.specs.Walking.{Left, backWay, Starts}
 
 -- its rows are those that are left

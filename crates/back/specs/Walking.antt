@@ -8,11 +8,10 @@ use lib.ListN.{length}
 use Rattle.tree.specs.Rows.{Row}
 use Rattle.tree.specs.Back.{backNode}
 use Rattle.nodes.specs.State.{placeOf, givenOf}
-use Rattle.nodes.specs.Tables.{limitsIn}
 use Rattle.walks.specs.Rooted.{RootRoom}
 use Rattle.walks.specs.Walks.{Way}
-use Rattle.back.specs.Table.{rowsLeft, wordAt}
-use Rattle.back.specs.Marks.{cellsBefore, Marked}
+use Rattle.marks.specs.Table.{rowsLeft, wordAt}
+use Rattle.marks.specs.Marks.{cellsBefore}
 
 -- these rows are left at a place of a table, which is the first byte of a row
 pub record Left (bytes : List ℕ) (at : ℕ) (rows : List Row) : Type 0 where
@@ -35,11 +34,6 @@ pub record Starts (bytes : List ℕ) (c row : ℕ) : Type 0 where
   pub first : placeOf c % 8 ≡ 0
   pub within : placeOf c ≤ length bytes
   pub room : RootRoom (cellsBefore bytes (placeOf c / 8)) (givenOf c) row
-
--- what is read: whole rows and, where a cut may be open, their marks
-pub record Read (u bytes marks : List ℕ) : Type 0 where
-  pub whole : length bytes % 8 ≡ 0
-  pub marked : ¬ (limitsIn u .maxmtt ≡ 0) → Marked bytes marks
 
 -- the row at a walk's place is a node's own
 abbrev pub ownNext : List ℕ → ℕ → ℕ → Bool

@@ -1,11 +1,11 @@
 // The way back of nodes that are out of the picture at the right or at the bottom, and of their children.
-use crate::ahead::decision_out;
-use crate::compare::word_at;
 use crate::inside;
-use crate::marks::Marks;
 use flags::Scratch;
 use flags::allowed;
 use flags::put_out;
+use marks::Marks;
+use marks::decision_out;
+use marks::word_at;
 use nodes::Child;
 use nodes::Table;
 use nodes::child_answer;
@@ -21,7 +21,8 @@ ghost use Rattle.nodes.specs.RowNodes.{nodeIn};
 ghost use Rattle.walks.specs.Stands.{word, Outer};
 ghost use Rattle.walks.specs.Kids.{fourWords, outerKids};
 ghost use Rattle.walks.specs.Walks.{Asked, Walked};
-ghost use Rattle.back.specs.Walking.{backWay, Read};
+ghost use Rattle.marks.specs.Marks.{Read};
+ghost use Rattle.back.specs.Walking.{backWay};
 
 // A child of a node that is out; one whose corner is outside the picture is skipped.
 pub(crate) fn child_back(

@@ -1,12 +1,12 @@
 // The way back of nodes inside the picture; built as the reader of these. A leaf is met by its parent, so that only
 // splits cost a call.
-use crate::ahead::decision_inside;
-use crate::compare::same_row;
-use crate::compare::word_at;
-use crate::marks::Marks;
 use flags::Scratch;
 use flags::allowed;
 use flags::put_split;
+use marks::Marks;
+use marks::decision_inside;
+use marks::same_row;
+use marks::word_at;
 use nodes::Child;
 use nodes::Table;
 use nodes::child_answer;
@@ -25,7 +25,8 @@ ghost use Rattle.tree.specs.Splits.{rightsIn};
 ghost use Rattle.tree.specs.Flags.{flagsFor};
 ghost use Rattle.nodes.specs.State.{placeOf, givenOf};
 ghost use Rattle.flags.specs.Puts.{Follows};
-ghost use Rattle.back.specs.Walking.{backWay, Read, ownNext};
+ghost use Rattle.marks.specs.Marks.{Read};
+ghost use Rattle.back.specs.Walking.{backWay, ownNext};
 
 // A leaf: its split flag, where some split is open, and on to the next row.
 pub(crate) fn leaf(flags: &mut Scratch, c: u64, splits: u32) -> u64

@@ -1,13 +1,10 @@
 // The walk of the way back: the rows of a tree, of any kind, become its flags, in a scratch table, or refusal 16.
-mod ahead;
-mod compare;
 mod edge;
 mod inside;
-mod marks;
 
-pub use compare::same_row;
 use flags::Scratch;
 use marks::Marks;
+use marks::same_row;
 use nodes::Table;
 ghost use mathlib.Core.Path.{_≡_};
 ghost use Prim.Native.Nat.{_/_, _%_};
@@ -19,8 +16,9 @@ ghost use Rattle.tree.specs.Back.{backNode};
 ghost use Rattle.nodes.specs.State.{placeOf};
 ghost use Rattle.walks.specs.Rooted.{Given, SomeRoot};
 ghost use Rattle.walks.specs.Walks.{Done};
-ghost use Rattle.back.specs.Table.{rowsLeft};
-ghost use Rattle.back.specs.Walking.{backWay, Starts, Read};
+ghost use Rattle.marks.specs.Table.{rowsLeft};
+ghost use Rattle.marks.specs.Marks.{Read};
+ghost use Rattle.back.specs.Walking.{backWay, Starts};
 
 // The walk of a root, from any row on. One that is out is above all cuts, as a child of a quad split is. One inside the
 // picture is met as a child is: the second caller keeps `node_back` a function of its own, so that a leaf is met without

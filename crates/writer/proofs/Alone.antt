@@ -30,9 +30,9 @@ use Rattle.unit.specs.Writer.{flagsFrom, testRows, writeRows}
 use Rattle.unit.proofs.TreeTurning.{tree-turned}
 use Rattle.walks.specs.Rooted.{Rooted}
 use Rattle.walks.proofs.RowFields.{fits}
-use Rattle.back.specs.Table.{wordAt, Same}
+use Rattle.marks.specs.Table.{wordAt, Same}
 use Rattle.writer.specs.Delivery.{leafAlone, leafFlags, deliverLeaf}
-use Rattle.back.proofs.RowWords.{word-tests}
+use Rattle.marks.proofs.RowWords.{word-tests}
 
 module _ {l : Limits} {root : Node} (r : Rooted (luma l) root) where
   -- the test of the code, by the root's number

@@ -1,7 +1,7 @@
 // The way back's test: whether some flags give the rows of a unit, with document 01's refusals 1 to 10, 15 and 16.
-use back::same_row;
 use flags::Scratch;
 use flags::some_open;
+use marks::same_row;
 use nodes::Child;
 use settings::Located;
 use settings::Settings;

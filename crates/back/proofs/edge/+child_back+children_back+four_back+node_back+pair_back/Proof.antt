@@ -39,8 +39,8 @@ use Rattle.back.proofs.edge.+child_back+children_back+four_back+node_ba
 use Rattle.back.proofs.edge.pair_back.Reads as pair-back
 use Rattle.back.proofs.edge.pair_back.Kinds as pair-back-kinds
 use Rattle.back.proofs.edge.+child_back+children_back+four_back+node_back+pair_back.Lts-pair_back as pair-back-lts
-use Rattle.back.proofs.ahead.decision_out.Reads as decision-out-reads
-use Rattle.back.proofs.compare.word_at.Reads as word-at-reads
+use Rattle.marks.proofs.decision_out.Reads as decision-out-reads
+use Rattle.marks.proofs.word_at.Reads as word-at-reads
 use Rattle.back.proofs.inside.child_back.Reads as child-back-reads
 use Rattle.flags.proofs.allowed.Reads as allowed-reads
 use Rattle.flags.proofs.put_out.Reads as put-out-reads

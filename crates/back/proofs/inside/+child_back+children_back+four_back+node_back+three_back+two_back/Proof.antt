@@ -40,9 +40,9 @@ use Rattle.back.proofs.inside.+child_back+children_back+four_back+node_
 use Rattle.back.proofs.inside.two_back.Reads as two-back
 use Rattle.back.proofs.inside.two_back.Kinds as two-back-kinds
 use Rattle.back.proofs.inside.+child_back+children_back+four_back+node_back+three_back+two_back.Lts-two_back as two-back-lts
-use Rattle.back.proofs.ahead.decision_inside.Reads as decision-inside-reads
-use Rattle.back.proofs.compare.same_row.Reads as same-row-reads
-use Rattle.back.proofs.compare.word_at.Reads as word-at-reads
+use Rattle.marks.proofs.decision_inside.Reads as decision-inside-reads
+use Rattle.marks.proofs.same_row.Reads as same-row-reads
+use Rattle.marks.proofs.word_at.Reads as word-at-reads
 use Rattle.back.proofs.inside.leaf.Reads as leaf-reads
 use Rattle.flags.proofs.allowed.Reads as allowed-reads
 use Rattle.flags.proofs.put_split.Reads as put-split-reads
