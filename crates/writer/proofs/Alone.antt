@@ -30,7 +30,7 @@ use Rattle.unit.specs.Writer.{flagsFrom, testRows, writeRows}
 use Rattle.unit.proofs.TreeTurning.{tree-turned}
 use Rattle.walks.specs.Rooted.{Rooted}
 use Rattle.walks.proofs.RowFields.{fits}
-use Rattle.marks.specs.Table.{wordAt, Same}
+use Rattle.marks.specs.Table.{Same}
 use Rattle.writer.specs.Delivery.{leafAlone, leafFlags, deliverLeaf}
 use Rattle.marks.proofs.RowWords.{word-tests}
 

@@ -1,10 +1,9 @@
-use Prim.Native.Nat.{ℕ, _/_}
+use Prim.Native.Nat.{ℕ}
 use mathlib.Core.Path.{_≡_}
 use mathlib.Core.Bool.{Bool, false}
 use mathlib.Core.List.{List, [], _∷_}
 use denote.Ref.{now}
 use borrow.Author.Needs.{needs}
-use Rattle.nodes.specs.State.{placeOf}
 use Rattle.walks.specs.Rooted.{SomeRoot}
 use Rattle.walks.specs.Stands.{word, Inside}
 use Rattle.walks.specs.Walks.{Asked}

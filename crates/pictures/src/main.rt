@@ -1,12 +1,13 @@
-// A whole picture, unit by unit, with refused calls in between.
-use crate::end_line;
-use crate::say;
-use crate::say_rows;
-use crate::setting_a;
+// Runs a whole picture on the proved session, unit by unit, with refused calls in between. The expected output, `stdout`,
+// is written from the paper.
 use libc::STDOUT_FILENO;
 use picture::Called;
 use picture::Opened;
 use picture::Session;
+use prints::end_line;
+use prints::say;
+use prints::say_rows;
+use prints::setting_a;
 use settings::Settings;
 use unit::Answer;
 ghost use Prim.Native.Nat.{_<_};
@@ -99,7 +100,7 @@ fn say_opened(text: &[u8], s: Settings) -> Session {
     }
 }
 
-pub(crate) fn say_pictures() {
+fn main() {
     say_opened(b"a picture of width 68: ", setting_a(68));
     let mut small = setting_a(72);
     small.height = 72;
