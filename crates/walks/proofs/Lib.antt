@@ -5,6 +5,7 @@ pub mod ChildRows
 pub mod Lawful
 pub mod Chains
 pub mod Lists
+pub mod Cycles
 pub mod Apart
 pub mod Measure
 pub mod Progress

@@ -1,4 +1,4 @@
-use Prim.Native.Nat.{ℕ, _+_, _*_, _<_}
+use Prim.Native.Nat.{ℕ, _+_, _*_}
 use mathlib.Core.Path.{_≡_, refl, _∙_}
 use mathlib.Core.Bool.{true}
 use mathlib.Core.List.{List, [], _∷_}
@@ -23,7 +23,8 @@ use Rattle.back.specs.Walking.{backWay}
 use Rattle.back.proofs.Way.{back-lawful}
 use Rattle.back.proofs.Steps.{in-room, out-row-there, out-nothing, one-cut, edge-shut, splits-out}
 use borrow.Fn.Kinds.{In}
-use borrow.Fn.PlainCycle.{Measures, is, falls, and}
+use borrow.Fn.PlainCycle.{Measures}
+use Rattle.walks.proofs.Cycles.{at, below}
 use Rattle.back.proofs.edge.child_back.Reads as child-back
 use Rattle.back.proofs.edge.child_back.Kinds as child-back-kinds
 use Rattle.back.proofs.edge.+child_back+children_back+four_back+node_back+pair_back.Lts-child_back as child-back-lts
@@ -60,12 +61,8 @@ use Rattle.nodes.proofs.count.Reads as count-reads
 use Rattle.nodes.proofs.place.Reads as place-reads
 use Rattle.nodes.proofs.position.Reads as position-reads
 use Rattle.nodes.proofs.refusal.Reads as refusal-reads
-use Rattle.back.proofs.edge.+child_back+children_back+four_back+node_back+pair_back.{
-  statement,
-}
-use Rattle.back.proofs.edge.+child_back+children_back+four_back+node_back+pair_back.Tie.{
-  close,
-}
+use Rattle.back.proofs.edge.+child_back+children_back+four_back+node_back+pair_back.{statement}
+use Rattle.back.proofs.edge.+child_back+children_back+four_back+node_back+pair_back.Tie.{close}
 
 abbrev μ-child-back : Measures 4 child-back-kinds.ps ℕ
 μ-child-back κs a = areaIn (a .1 .1 .1 .1 .1 .0) * 4 + 3
@@ -83,61 +80,35 @@ abbrev μ-pair-back : Measures 4 pair-back-kinds.ps ℕ
 μ-pair-back κs a = areasIn (word (a .1 .1 .1 .1 .1 .0) (a .1 .1 .1 .1 .1 .1 .1 .0) ∷ word (a .1 .1 .1 .1 .1 .1 .0) (a .1 .1 .1 .1 .1 .1 .1 .0) ∷ []) * 4
 
 abbrev child-back-at : ℕ → In 4 child-back-kinds.ps
-child-back-at t =
-    and 4 child-back-kinds.ps (is 4 child-back-kinds.ps μ-child-back t) child-back.Pre
-
-abbrev child-back-below : ℕ → In 4 child-back-kinds.ps
-child-back-below t =
-    and 4 child-back-kinds.ps (falls 4 child-back-kinds.ps _<_ μ-child-back t) child-back.Pre
+child-back-at t = at 4 child-back-kinds.ps μ-child-back child-back.Pre t
 
 abbrev children-back-at : ℕ → In 4 children-back-kinds.ps
-children-back-at t =
-    and 4 children-back-kinds.ps (is 4 children-back-kinds.ps μ-children-back t) children-back.Pre
-
-abbrev children-back-below : ℕ → In 4 children-back-kinds.ps
-children-back-below t =
-    and
-    4
-    children-back-kinds.ps
-    (falls 4 children-back-kinds.ps _<_ μ-children-back t)
-    children-back.Pre
+children-back-at t = at 4 children-back-kinds.ps μ-children-back children-back.Pre t
 
 abbrev four-back-at : ℕ → In 4 four-back-kinds.ps
-four-back-at t = and 4 four-back-kinds.ps (is 4 four-back-kinds.ps μ-four-back t) four-back.Pre
-
-abbrev four-back-below : ℕ → In 4 four-back-kinds.ps
-four-back-below t =
-    and 4 four-back-kinds.ps (falls 4 four-back-kinds.ps _<_ μ-four-back t) four-back.Pre
+four-back-at t = at 4 four-back-kinds.ps μ-four-back four-back.Pre t
 
 abbrev node-back-at : ℕ → In 4 node-back-kinds.ps
-node-back-at t = and 4 node-back-kinds.ps (is 4 node-back-kinds.ps μ-node-back t) node-back.Pre
-
-abbrev node-back-below : ℕ → In 4 node-back-kinds.ps
-node-back-below t =
-    and 4 node-back-kinds.ps (falls 4 node-back-kinds.ps _<_ μ-node-back t) node-back.Pre
+node-back-at t = at 4 node-back-kinds.ps μ-node-back node-back.Pre t
 
 abbrev pair-back-at : ℕ → In 4 pair-back-kinds.ps
-pair-back-at t = and 4 pair-back-kinds.ps (is 4 pair-back-kinds.ps μ-pair-back t) pair-back.Pre
-
-abbrev pair-back-below : ℕ → In 4 pair-back-kinds.ps
-pair-back-below t =
-    and 4 pair-back-kinds.ps (falls 4 pair-back-kinds.ps _<_ μ-pair-back t) pair-back.Pre
+pair-back-at t = at 4 pair-back-kinds.ps μ-pair-back pair-back.Pre t
 
 -- what the functions that each member calls ask and give
 abbrev child-claims : ℕ → child-back-lts.Claims
-child-claims t = (begins-inside-reads.Asked, begins-inside-reads.Learnt, right-out-at-reads.Asked, right-out-at-reads.Learnt, bottom-out-at-reads.Asked, bottom-out-at-reads.Learnt, node-back-below t, node-back.Post, inner-splits-reads.Asked, inner-splits-reads.Learnt, bound-reads.Asked, bound-reads.Learnt, child-back-reads.Asked, child-back-reads.Learnt)
+child-claims t = (begins-inside-reads.Asked, begins-inside-reads.Learnt, right-out-at-reads.Asked, right-out-at-reads.Learnt, bottom-out-at-reads.Asked, bottom-out-at-reads.Learnt, below 4 node-back-kinds.ps μ-node-back node-back.Pre t, node-back.Post, inner-splits-reads.Asked, inner-splits-reads.Learnt, bound-reads.Asked, bound-reads.Learnt, child-back-reads.Asked, child-back-reads.Learnt)
 
 abbrev children-claims : ℕ → children-back-lts.Claims
-children-claims t = (depth-above-reads.Asked, depth-above-reads.Learnt, four-back-below t, four-back.Post, depth-below-reads.Asked, depth-below-reads.Learnt, first-half-reads.Asked, first-half-reads.Learnt, second-half-reads.Asked, second-half-reads.Learnt, pair-back-below t, pair-back.Post)
+children-claims t = (depth-above-reads.Asked, depth-above-reads.Learnt, below 4 four-back-kinds.ps μ-four-back four-back.Pre t, four-back.Post, depth-below-reads.Asked, depth-below-reads.Learnt, first-half-reads.Asked, first-half-reads.Learnt, second-half-reads.Asked, second-half-reads.Learnt, below 4 pair-back-kinds.ps μ-pair-back pair-back.Pre t, pair-back.Post)
 
 abbrev four-claims : ℕ → four-back-lts.Claims
-four-claims t = (child-row-reads.Asked, child-row-reads.Learnt, child-back-below t, child-back.Post, child-answer-reads.Asked, child-answer-reads.Learnt)
+four-claims t = (child-row-reads.Asked, child-row-reads.Learnt, below 4 child-back-kinds.ps μ-child-back child-back.Pre t, child-back.Post, child-answer-reads.Asked, child-answer-reads.Learnt)
 
 abbrev node-claims : ℕ → node-back-lts.Claims
-node-claims t = (bottom-out-at-reads.Asked, bottom-out-at-reads.Learnt, right-out-at-reads.Asked, right-out-at-reads.Learnt, out-splits-reads.Asked, out-splits-reads.Learnt, place-reads.Asked, place-reads.Learnt, refusal-reads.Asked, refusal-reads.Learnt, word-at-reads.Asked, word-at-reads.Learnt, decision-out-reads.Asked, decision-out-reads.Learnt, allowed-reads.Asked, allowed-reads.Learnt, count-reads.Asked, count-reads.Learnt, put-out-reads.Asked, put-out-reads.Learnt, position-reads.Asked, position-reads.Learnt, children-back-below t, children-back.Post)
+node-claims t = (bottom-out-at-reads.Asked, bottom-out-at-reads.Learnt, right-out-at-reads.Asked, right-out-at-reads.Learnt, out-splits-reads.Asked, out-splits-reads.Learnt, place-reads.Asked, place-reads.Learnt, refusal-reads.Asked, refusal-reads.Learnt, word-at-reads.Asked, word-at-reads.Learnt, decision-out-reads.Asked, decision-out-reads.Learnt, allowed-reads.Asked, allowed-reads.Learnt, count-reads.Asked, count-reads.Learnt, put-out-reads.Asked, put-out-reads.Learnt, position-reads.Asked, position-reads.Learnt, below 4 children-back-kinds.ps μ-children-back children-back.Pre t, children-back.Post)
 
 abbrev pair-claims : ℕ → pair-back-lts.Claims
-pair-claims t = (child-back-below t, child-back.Post, child-answer-reads.Asked, child-answer-reads.Learnt)
+pair-claims t = (below 4 child-back-kinds.ps μ-child-back child-back.Pre t, child-back.Post, child-answer-reads.Asked, child-answer-reads.Learnt)
 
 child-back-returns : (t : ℕ) → child-back-lts.Need-returns (child-claims t) (child-back-at t) child-back.Post
 child-back-returns t c =
@@ -239,18 +210,6 @@ abbrev four-past3 : (t : ℕ) → four-back-lts.After-known-told3 (four-claims t
 four-past3 t k = four-past2 t (k .before .before .before .before .before .before .before)
 
 -- the numbers that the code has found for each
-four-e1 : (t : ℕ) (r : four-back-lts.After-child-row (four-claims t) (four-back-at t) four-back.Post) → let st = r .before .before in word (r .child-row .result) (st .args .depths) ≡ word (childRow (st .args .row) Quad 0) (st .args .depths)
-four-e1 t r = same-word (r .child-row .ensures) refl
-
-four-e2 : (t : ℕ) (r : four-back-lts.After-child-row2 (four-claims t) (four-back-at t) four-back.Post) → let st = (four-past1 t (r .before)) .before .before in word (r .child-row2 .result) (st .args .depths) ≡ word (childRow (st .args .row) Quad 1) (st .args .depths)
-four-e2 t r = same-word (r .child-row2 .ensures) refl
-
-four-e3 : (t : ℕ) (r : four-back-lts.After-child-row3 (four-claims t) (four-back-at t) four-back.Post) → let st = (four-past2 t (r .before)) .before .before in word (r .child-row3 .result) (st .args .depths) ≡ word (childRow (st .args .row) Quad 2) (st .args .depths)
-four-e3 t r = same-word (r .child-row3 .ensures) refl
-
-four-e4 : (t : ℕ) (r : four-back-lts.After-child-row4 (four-claims t) (four-back-at t) four-back.Post) → let st = (four-past3 t (r .before)) .before .before in word (r .child-row4 .result) (st .args .depths) ≡ word (childRow (st .args .row) Quad 3) (st .args .depths)
-four-e4 t r = same-word (r .child-row4 .ensures) refl
-
 four-0 : (t : ℕ) (st : FourStart t) → FourSoFar t st 0 (st .args .c) (word (childRow (st .args .row) Quad 0) (st .args .depths) ∷ word (childRow (st .args .row) Quad 1) (st .args .depths) ∷ word (childRow (st .args .row) Quad 2) (st .args .depths) ∷ word (childRow (st .args .row) Quad 3) (st .args .depths) ∷ []) (now (st .args .flags))
 four-0 t st = begun _ _ (st .pre .1 .0)
 
@@ -259,79 +218,79 @@ four-1 t k =
     let ca = k .before .before .before in
     let r = ca .before .before .before in
     let st = r .before .before in
-    walked _ _ (back-lawful (now (st .args .rows))) outer-placed (four-0 t st) (four-e1 t r) (ca .before .child-back .ensures) (was-walked _ (ca .child-answer .ensures) (k .before .c1 .given .1))
+    walked _ _ (back-lawful (now (st .args .rows))) outer-placed (four-0 t st) (same-word (r .child-row .ensures) refl) (ca .before .child-back .ensures) (was-walked _ (ca .child-answer .ensures) (k .before .c1 .given .1))
 
 four-2 : (t : ℕ) (k : four-back-lts.After-known-told2 (four-claims t) (four-back-at t) four-back.Post) → let st = four-past2 t k .before .before in FourSoFar t st 2 (k .before .c2 .given .0 .0) (word (childRow (st .args .row) Quad 2) (st .args .depths) ∷ word (childRow (st .args .row) Quad 3) (st .args .depths) ∷ []) (k .before .before .before .before .child-back2 .last .1 .1 .0)
 four-2 t k =
     let ca = k .before .before .before in
     let r = ca .before .before .before in
     let st = (four-past1 t (r .before)) .before .before in
-    walked _ _ (back-lawful (now (st .args .rows))) outer-placed (four-1 t (k .before .before .before .before .before .before .before)) (four-e2 t r) (ca .before .child-back2 .ensures) (was-walked _ (ca .child-answer2 .ensures) (k .before .c2 .given .1))
+    walked _ _ (back-lawful (now (st .args .rows))) outer-placed (four-1 t (k .before .before .before .before .before .before .before)) (same-word (r .child-row2 .ensures) refl) (ca .before .child-back2 .ensures) (was-walked _ (ca .child-answer2 .ensures) (k .before .c2 .given .1))
 
 four-3 : (t : ℕ) (k : four-back-lts.After-known-told3 (four-claims t) (four-back-at t) four-back.Post) → let st = four-past3 t k .before .before in FourSoFar t st 3 (k .before .c3 .given .0 .0) (word (childRow (st .args .row) Quad 3) (st .args .depths) ∷ []) (k .before .before .before .before .child-back3 .last .1 .1 .0)
 four-3 t k =
     let ca = k .before .before .before in
     let r = ca .before .before .before in
     let st = (four-past2 t (r .before)) .before .before in
-    walked _ _ (back-lawful (now (st .args .rows))) outer-placed (four-2 t (k .before .before .before .before .before .before .before)) (four-e3 t r) (ca .before .child-back3 .ensures) (was-walked _ (ca .child-answer3 .ensures) (k .before .c3 .given .1))
+    walked _ _ (back-lawful (now (st .args .rows))) outer-placed (four-2 t (k .before .before .before .before .before .before .before)) (same-word (r .child-row3 .ensures) refl) (ca .before .child-back3 .ensures) (was-walked _ (ca .child-answer3 .ensures) (k .before .c3 .given .1))
 
 four-back-child-back-requires : (t : ℕ) → four-back-lts.Need-child-back-requires (four-claims t) (four-back-at t) four-back.Post
 four-back-child-back-requires t c κs =
     let r = c .before in
     let st = r .before .before in
-    with-read (st .pre .1 .1) (next-child _ _ (back-lawful (now (st .args .rows))) outer-placed (four-0 t st) (four-e1 t r) (omega arith) (st .pre .0) (st .pre .1 .2))
+    with-read (st .pre .1 .1) (next-child _ _ (back-lawful (now (st .args .rows))) outer-placed (four-0 t st) (same-word (r .child-row .ensures) refl) (omega arith) (st .pre .0) (st .pre .1 .2))
 
 four-back-returns : (t : ℕ) → four-back-lts.Need-returns (four-claims t) (four-back-at t) four-back.Post
 four-back-returns t c =
     let ca = c .before .before in
     let r = ca .before .before .before in
     let st = r .before .before in
-    refused _ _ (back-lawful (now (st .args .rows))) outer-placed (four-0 t st) (four-e1 t r) (ca .before .child-back .ensures) (was-refused _ (ca .child-answer .ensures) (c .enum-told .given .1))
+    refused _ _ (back-lawful (now (st .args .rows))) outer-placed (four-0 t st) (same-word (r .child-row .ensures) refl) (ca .before .child-back .ensures) (was-refused _ (ca .child-answer .ensures) (c .enum-told .given .1))
 
 four-back-child-back-requires-2 : (t : ℕ) → four-back-lts.Need-child-back-requires-2 (four-claims t) (four-back-at t) four-back.Post
 four-back-child-back-requires-2 t c κs =
     let r = c .before in
     let st = (four-past1 t (r .before)) .before .before in
-    with-read (st .pre .1 .1) (next-child _ _ (back-lawful (now (st .args .rows))) outer-placed (four-1 t (r .before)) (four-e2 t r) (omega arith) (st .pre .0) (st .pre .1 .2))
+    with-read (st .pre .1 .1) (next-child _ _ (back-lawful (now (st .args .rows))) outer-placed (four-1 t (r .before)) (same-word (r .child-row2 .ensures) refl) (omega arith) (st .pre .0) (st .pre .1 .2))
 
 four-back-returns-2 : (t : ℕ) → four-back-lts.Need-returns-2 (four-claims t) (four-back-at t) four-back.Post
 four-back-returns-2 t c =
     let ca = c .before .before in
     let r = ca .before .before .before in
     let st = (four-past1 t (r .before)) .before .before in
-    refused _ _ (back-lawful (now (st .args .rows))) outer-placed (four-1 t (r .before)) (four-e2 t r) (ca .before .child-back2 .ensures) (was-refused _ (ca .child-answer2 .ensures) (c .enum-told2 .given .1))
+    refused _ _ (back-lawful (now (st .args .rows))) outer-placed (four-1 t (r .before)) (same-word (r .child-row2 .ensures) refl) (ca .before .child-back2 .ensures) (was-refused _ (ca .child-answer2 .ensures) (c .enum-told2 .given .1))
 
 four-back-child-back-requires-3 : (t : ℕ) → four-back-lts.Need-child-back-requires-3 (four-claims t) (four-back-at t) four-back.Post
 four-back-child-back-requires-3 t c κs =
     let r = c .before in
     let st = (four-past2 t (r .before)) .before .before in
-    with-read (st .pre .1 .1) (next-child _ _ (back-lawful (now (st .args .rows))) outer-placed (four-2 t (r .before)) (four-e3 t r) (omega arith) (st .pre .0) (st .pre .1 .2))
+    with-read (st .pre .1 .1) (next-child _ _ (back-lawful (now (st .args .rows))) outer-placed (four-2 t (r .before)) (same-word (r .child-row3 .ensures) refl) (omega arith) (st .pre .0) (st .pre .1 .2))
 
 four-back-returns-3 : (t : ℕ) → four-back-lts.Need-returns-3 (four-claims t) (four-back-at t) four-back.Post
 four-back-returns-3 t c =
     let ca = c .before .before in
     let r = ca .before .before .before in
     let st = (four-past2 t (r .before)) .before .before in
-    refused _ _ (back-lawful (now (st .args .rows))) outer-placed (four-2 t (r .before)) (four-e3 t r) (ca .before .child-back3 .ensures) (was-refused _ (ca .child-answer3 .ensures) (c .enum-told3 .given .1))
+    refused _ _ (back-lawful (now (st .args .rows))) outer-placed (four-2 t (r .before)) (same-word (r .child-row3 .ensures) refl) (ca .before .child-back3 .ensures) (was-refused _ (ca .child-answer3 .ensures) (c .enum-told3 .given .1))
 
 four-back-child-back-requires-4 : (t : ℕ) → four-back-lts.Need-child-back-requires-4 (four-claims t) (four-back-at t) four-back.Post
 four-back-child-back-requires-4 t c κs =
     let r = c .before in
     let st = (four-past3 t (r .before)) .before .before in
-    with-read (st .pre .1 .1) (next-child _ _ (back-lawful (now (st .args .rows))) outer-placed (four-3 t (r .before)) (four-e4 t r) (omega arith) (st .pre .0) (st .pre .1 .2))
+    with-read (st .pre .1 .1) (next-child _ _ (back-lawful (now (st .args .rows))) outer-placed (four-3 t (r .before)) (same-word (r .child-row4 .ensures) refl) (omega arith) (st .pre .0) (st .pre .1 .2))
 
 four-back-returns-4 : (t : ℕ) → four-back-lts.Need-returns-4 (four-claims t) (four-back-at t) four-back.Post
 four-back-returns-4 t c =
     let w = c .before .before .before in
     let r = w .before .before in
-    last _ _ (four-3 t (r .before)) (four-e4 t r) (w .child-back4 .ensures)
+    last _ _ (four-3 t (r .before)) (same-word (r .child-row4 .ensures) refl) (w .child-back4 .ensures)
 
 four-back-returns-5 : (t : ℕ) → four-back-lts.Need-returns-5 (four-claims t) (four-back-at t) four-back.Post
 four-back-returns-5 t c =
     let ca = c .before .before .before in
     let w = ca .before in
     let r = w .before .before in
-    ended _ _ (four-3 t (r .before)) (four-e4 t r) (w .child-back4 .ensures) (was-walked _ (ca .child-answer4 .ensures) (c .before .c4 .given .1))
+    ended _ _ (four-3 t (r .before)) (same-word (r .child-row4 .ensures) refl) (w .child-back4 .ensures) (was-walked _ (ca .child-answer4 .ensures) (c .before .c4 .given .1))
 
 node-back-returns : (t : ℕ) → node-back-lts.Need-returns (node-claims t) (node-back-at t) node-back.Post
 node-back-returns t c =

@@ -1,4 +1,4 @@
-use Prim.Native.Nat.{ℕ, _+_, _*_, _<_}
+use Prim.Native.Nat.{ℕ, _+_, _*_}
 use mathlib.Core.Path.{_≡_, refl, sym, ap, _∙_}
 use mathlib.Core.Bool.{true, false}
 use mathlib.Core.List.{List, [], _∷_}
@@ -21,7 +21,8 @@ use Rattle.back.specs.Walking.{backWay}
 use Rattle.back.proofs.Way.{back-lawful}
 use Rattle.back.proofs.Steps.{in-room, at-row, row-there, leaf-room, walked-own, not-own, walked-nothing, walked-shut, splits-inside}
 use borrow.Fn.Kinds.{In}
-use borrow.Fn.PlainCycle.{Measures, is, falls, and}
+use borrow.Fn.PlainCycle.{Measures}
+use Rattle.walks.proofs.Cycles.{at, below}
 use Rattle.back.proofs.inside.child_back.Reads as child-back
 use Rattle.back.proofs.inside.child_back.Kinds as child-back-kinds
 use Rattle.back.proofs.inside.+child_back+children_back+four_back+node_back+three_back+two_back.Lts-child_back as child-back-lts
@@ -59,12 +60,8 @@ use Rattle.nodes.proofs.count.Reads as count-reads
 use Rattle.nodes.proofs.place.Reads as place-reads
 use Rattle.nodes.proofs.position.Reads as position-reads
 use Rattle.nodes.proofs.refusal.Reads as refusal-reads
-use Rattle.back.proofs.inside.+child_back+children_back+four_back+node_back+three_back+two_back.{
-  statement,
-}
-use Rattle.back.proofs.inside.+child_back+children_back+four_back+node_back+three_back+two_back.Tie.{
-  close,
-}
+use Rattle.back.proofs.inside.+child_back+children_back+four_back+node_back+three_back+two_back.{statement}
+use Rattle.back.proofs.inside.+child_back+children_back+four_back+node_back+three_back+two_back.Tie.{close}
 
 abbrev μ-child-back : Measures 4 child-back-kinds.ps ℕ
 μ-child-back κs a = areaIn (a .1 .1 .1 .1 .1 .0) * 4 + 3
@@ -85,72 +82,41 @@ abbrev μ-two-back : Measures 4 two-back-kinds.ps ℕ
 μ-two-back κs a = areasIn (innerKids (now (a .0)) (a .1 .1 .1 .1 .1 .0) (a .1 .1 .1 .1 .1 .1 .1 .0) (Binary (a .1 .1 .1 .1 .1 .1 .0))) * 4
 
 abbrev child-back-at : ℕ → In 4 child-back-kinds.ps
-child-back-at t =
-    and 4 child-back-kinds.ps (is 4 child-back-kinds.ps μ-child-back t) child-back.Pre
-
-abbrev child-back-below : ℕ → In 4 child-back-kinds.ps
-child-back-below t =
-    and 4 child-back-kinds.ps (falls 4 child-back-kinds.ps _<_ μ-child-back t) child-back.Pre
+child-back-at t = at 4 child-back-kinds.ps μ-child-back child-back.Pre t
 
 abbrev children-back-at : ℕ → In 4 children-back-kinds.ps
-children-back-at t =
-    and 4 children-back-kinds.ps (is 4 children-back-kinds.ps μ-children-back t) children-back.Pre
-
-abbrev children-back-below : ℕ → In 4 children-back-kinds.ps
-children-back-below t =
-    and
-    4
-    children-back-kinds.ps
-    (falls 4 children-back-kinds.ps _<_ μ-children-back t)
-    children-back.Pre
+children-back-at t = at 4 children-back-kinds.ps μ-children-back children-back.Pre t
 
 abbrev four-back-at : ℕ → In 4 four-back-kinds.ps
-four-back-at t = and 4 four-back-kinds.ps (is 4 four-back-kinds.ps μ-four-back t) four-back.Pre
-
-abbrev four-back-below : ℕ → In 4 four-back-kinds.ps
-four-back-below t =
-    and 4 four-back-kinds.ps (falls 4 four-back-kinds.ps _<_ μ-four-back t) four-back.Pre
+four-back-at t = at 4 four-back-kinds.ps μ-four-back four-back.Pre t
 
 abbrev node-back-at : ℕ → In 4 node-back-kinds.ps
-node-back-at t = and 4 node-back-kinds.ps (is 4 node-back-kinds.ps μ-node-back t) node-back.Pre
-
-abbrev node-back-below : ℕ → In 4 node-back-kinds.ps
-node-back-below t =
-    and 4 node-back-kinds.ps (falls 4 node-back-kinds.ps _<_ μ-node-back t) node-back.Pre
+node-back-at t = at 4 node-back-kinds.ps μ-node-back node-back.Pre t
 
 abbrev three-back-at : ℕ → In 4 three-back-kinds.ps
-three-back-at t =
-    and 4 three-back-kinds.ps (is 4 three-back-kinds.ps μ-three-back t) three-back.Pre
-
-abbrev three-back-below : ℕ → In 4 three-back-kinds.ps
-three-back-below t =
-    and 4 three-back-kinds.ps (falls 4 three-back-kinds.ps _<_ μ-three-back t) three-back.Pre
+three-back-at t = at 4 three-back-kinds.ps μ-three-back three-back.Pre t
 
 abbrev two-back-at : ℕ → In 4 two-back-kinds.ps
-two-back-at t = and 4 two-back-kinds.ps (is 4 two-back-kinds.ps μ-two-back t) two-back.Pre
-
-abbrev two-back-below : ℕ → In 4 two-back-kinds.ps
-two-back-below t =
-    and 4 two-back-kinds.ps (falls 4 two-back-kinds.ps _<_ μ-two-back t) two-back.Pre
+two-back-at t = at 4 two-back-kinds.ps μ-two-back two-back.Pre t
 
 -- what the functions that each member calls ask and give
 abbrev child-claims : ℕ → child-back-lts.Claims
-child-claims t = (place-reads.Asked, place-reads.Learnt, same-row-reads.Asked, same-row-reads.Learnt, leaf-reads.Asked, leaf-reads.Learnt, node-back-below t, node-back.Post)
+child-claims t = (place-reads.Asked, place-reads.Learnt, same-row-reads.Asked, same-row-reads.Learnt, leaf-reads.Asked, leaf-reads.Learnt, below 4 node-back-kinds.ps μ-node-back node-back.Pre t, node-back.Post)
 
 abbrev children-claims : ℕ → children-back-lts.Claims
-children-claims t = (four-back-below t, four-back.Post, two-back-below t, two-back.Post, three-back-below t, three-back.Post)
+children-claims t = (below 4 four-back-kinds.ps μ-four-back four-back.Pre t, four-back.Post, below 4 two-back-kinds.ps μ-two-back two-back.Pre t, two-back.Post, below 4 three-back-kinds.ps μ-three-back three-back.Pre t, three-back.Post)
 
 abbrev four-claims : ℕ → four-back-lts.Claims
-four-claims t = (child-row-reads.Asked, child-row-reads.Learnt, open-below-reads.Asked, open-below-reads.Learnt, child-back-below t, child-back.Post, child-answer-reads.Asked, child-answer-reads.Learnt)
+four-claims t = (child-row-reads.Asked, child-row-reads.Learnt, open-below-reads.Asked, open-below-reads.Learnt, below 4 child-back-kinds.ps μ-child-back child-back.Pre t, child-back.Post, child-answer-reads.Asked, child-answer-reads.Learnt)
 
 abbrev node-claims : ℕ → node-back-lts.Claims
-node-claims t = (place-reads.Asked, place-reads.Learnt, refusal-reads.Asked, refusal-reads.Learnt, word-at-reads.Asked, word-at-reads.Learnt, decision-inside-reads.Asked, decision-inside-reads.Learnt, allowed-reads.Asked, allowed-reads.Learnt, count-reads.Asked, count-reads.Learnt, put-split-reads.Asked, put-split-reads.Learnt, position-reads.Asked, position-reads.Learnt, children-back-below t, children-back.Post)
+node-claims t = (place-reads.Asked, place-reads.Learnt, refusal-reads.Asked, refusal-reads.Learnt, word-at-reads.Asked, word-at-reads.Learnt, decision-inside-reads.Asked, decision-inside-reads.Learnt, allowed-reads.Asked, allowed-reads.Learnt, count-reads.Asked, count-reads.Learnt, put-split-reads.Asked, put-split-reads.Learnt, position-reads.Asked, position-reads.Learnt, below 4 children-back-kinds.ps μ-children-back children-back.Pre t, children-back.Post)
 
 abbrev three-claims : ℕ → three-back-lts.Claims
-three-claims t = (first-third-reads.Asked, first-third-reads.Learnt, open-below-reads.Asked, open-below-reads.Learnt, child-back-below t, child-back.Post, child-answer-reads.Asked, child-answer-reads.Learnt, middle-third-reads.Asked, middle-third-reads.Learnt, middle-cuts-reads.Asked, middle-cuts-reads.Learnt, last-third-reads.Asked, last-third-reads.Learnt)
+three-claims t = (first-third-reads.Asked, first-third-reads.Learnt, open-below-reads.Asked, open-below-reads.Learnt, below 4 child-back-kinds.ps μ-child-back child-back.Pre t, child-back.Post, child-answer-reads.Asked, child-answer-reads.Learnt, middle-third-reads.Asked, middle-third-reads.Learnt, middle-cuts-reads.Asked, middle-cuts-reads.Learnt, last-third-reads.Asked, last-third-reads.Learnt)
 
 abbrev two-claims : ℕ → two-back-lts.Claims
-two-claims t = (first-half-reads.Asked, first-half-reads.Learnt, second-half-reads.Asked, second-half-reads.Learnt, open-below-reads.Asked, open-below-reads.Learnt, child-back-below t, child-back.Post, child-answer-reads.Asked, child-answer-reads.Learnt)
+two-claims t = (first-half-reads.Asked, first-half-reads.Learnt, second-half-reads.Asked, second-half-reads.Learnt, open-below-reads.Asked, open-below-reads.Learnt, below 4 child-back-kinds.ps μ-child-back child-back.Pre t, child-back.Post, child-answer-reads.Asked, child-answer-reads.Learnt)
 
 child-back-same-row-requires : (t : ℕ) → child-back-lts.Need-same-row-requires (child-claims t) (child-back-at t) child-back.Post
 child-back-same-row-requires t c κs = let st = c .before .before in at-row (st .pre .1 .0) (st .pre .1 .1) (c .place .ensures .0)
@@ -249,18 +215,6 @@ four-past3 t k = four-past2 t (k .before .before .before .before .before .before
 four-open-is : (t : ℕ) (r : four-back-lts.After-open-below (four-claims t) (four-back-at t) four-back.Post) → r .open-below .result ≡ four-open t (r .before .before .before)
 four-open-is t r = let st = r .before .before .before in same-open (now (st .args .u)) (st .args .bound) 1 (r .before .child-row .ensures) refl (r .open-below .ensures)
 
-four-e1 : (t : ℕ) (r : four-back-lts.After-open-below (four-claims t) (four-back-at t) four-back.Post) → let st = r .before .before .before in word (r .before .child-row .result) (r .open-below .result) ≡ word (childRow (st .args .row) Quad 0) (four-open t st)
-four-e1 t r = same-word (r .before .child-row .ensures) (four-open-is t r)
-
-four-e2 : (t : ℕ) (r : four-back-lts.After-child-row2 (four-claims t) (four-back-at t) four-back.Post) → let st = (four-past1 t (r .before)) .before .before .before in word (r .child-row2 .result) ((four-past1 t (r .before)) .open-below .result) ≡ word (childRow (st .args .row) Quad 1) (four-open t st)
-four-e2 t r = same-word (r .child-row2 .ensures) (four-open-is t (four-past1 t (r .before)))
-
-four-e3 : (t : ℕ) (r : four-back-lts.After-child-row3 (four-claims t) (four-back-at t) four-back.Post) → let st = (four-past2 t (r .before)) .before .before .before in word (r .child-row3 .result) ((four-past2 t (r .before)) .open-below .result) ≡ word (childRow (st .args .row) Quad 2) (four-open t st)
-four-e3 t r = same-word (r .child-row3 .ensures) (four-open-is t (four-past2 t (r .before)))
-
-four-e4 : (t : ℕ) (r : four-back-lts.After-child-row4 (four-claims t) (four-back-at t) four-back.Post) → let st = (four-past3 t (r .before)) .before .before .before in word (r .child-row4 .result) ((four-past3 t (r .before)) .open-below .result) ≡ word (childRow (st .args .row) Quad 3) (four-open t st)
-four-e4 t r = same-word (r .child-row4 .ensures) (four-open-is t (four-past3 t (r .before)))
-
 four-0 : (t : ℕ) (st : FourStart t) → FourSoFar t st 0 (st .args .c) (word (childRow (st .args .row) Quad 0) (four-open t st) ∷ word (childRow (st .args .row) Quad 1) (four-open t st) ∷ word (childRow (st .args .row) Quad 2) (four-open t st) ∷ word (childRow (st .args .row) Quad 3) (four-open t st) ∷ []) (now (st .args .flags))
 unfolding innerKids
 four-0 t st = begun _ _ (st .pre .1 .0)
@@ -270,79 +224,79 @@ four-1 t k =
     let ca = k .before .before .before in
     let r = ca .before .before .before in
     let st = r .before .before .before in
-    walked _ _ (back-lawful (now (st .args .rows))) (inside-placed _) (four-0 t st) (four-e1 t r) (ca .before .child-back .ensures) (was-walked _ (ca .child-answer .ensures) (k .before .c1 .given .1))
+    walked _ _ (back-lawful (now (st .args .rows))) (inside-placed _) (four-0 t st) (same-word (r .before .child-row .ensures) (four-open-is t r)) (ca .before .child-back .ensures) (was-walked _ (ca .child-answer .ensures) (k .before .c1 .given .1))
 
 four-2 : (t : ℕ) (k : four-back-lts.After-known-told2 (four-claims t) (four-back-at t) four-back.Post) → let st = four-past2 t k .before .before .before in FourSoFar t st 2 (k .before .c2 .given .0 .0) (word (childRow (st .args .row) Quad 2) (four-open t st) ∷ word (childRow (st .args .row) Quad 3) (four-open t st) ∷ []) (k .before .before .before .before .child-back2 .last .1 .1 .0)
 four-2 t k =
     let ca = k .before .before .before in
     let r = ca .before .before .before in
     let st = (four-past1 t (r .before)) .before .before .before in
-    walked _ _ (back-lawful (now (st .args .rows))) (inside-placed _) (four-1 t (k .before .before .before .before .before .before .before)) (four-e2 t r) (ca .before .child-back2 .ensures) (was-walked _ (ca .child-answer2 .ensures) (k .before .c2 .given .1))
+    walked _ _ (back-lawful (now (st .args .rows))) (inside-placed _) (four-1 t (k .before .before .before .before .before .before .before)) (same-word (r .child-row2 .ensures) (four-open-is t (four-past1 t (r .before)))) (ca .before .child-back2 .ensures) (was-walked _ (ca .child-answer2 .ensures) (k .before .c2 .given .1))
 
 four-3 : (t : ℕ) (k : four-back-lts.After-known-told3 (four-claims t) (four-back-at t) four-back.Post) → let st = four-past3 t k .before .before .before in FourSoFar t st 3 (k .before .c3 .given .0 .0) (word (childRow (st .args .row) Quad 3) (four-open t st) ∷ []) (k .before .before .before .before .child-back3 .last .1 .1 .0)
 four-3 t k =
     let ca = k .before .before .before in
     let r = ca .before .before .before in
     let st = (four-past2 t (r .before)) .before .before .before in
-    walked _ _ (back-lawful (now (st .args .rows))) (inside-placed _) (four-2 t (k .before .before .before .before .before .before .before)) (four-e3 t r) (ca .before .child-back3 .ensures) (was-walked _ (ca .child-answer3 .ensures) (k .before .c3 .given .1))
+    walked _ _ (back-lawful (now (st .args .rows))) (inside-placed _) (four-2 t (k .before .before .before .before .before .before .before)) (same-word (r .child-row3 .ensures) (four-open-is t (four-past2 t (r .before)))) (ca .before .child-back3 .ensures) (was-walked _ (ca .child-answer3 .ensures) (k .before .c3 .given .1))
 
 four-back-child-back-requires : (t : ℕ) → four-back-lts.Need-child-back-requires (four-claims t) (four-back-at t) four-back.Post
 four-back-child-back-requires t c κs =
     let r = c .before in
     let st = r .before .before .before in
-    with-read (st .pre .1 .1) (next-child _ _ (back-lawful (now (st .args .rows))) (inside-placed _) (four-0 t st) (four-e1 t r) (omega arith) (st .pre .0) (st .pre .1 .2))
+    with-read (st .pre .1 .1) (next-child _ _ (back-lawful (now (st .args .rows))) (inside-placed _) (four-0 t st) (same-word (r .before .child-row .ensures) (four-open-is t r)) (omega arith) (st .pre .0) (st .pre .1 .2))
 
 four-back-returns : (t : ℕ) → four-back-lts.Need-returns (four-claims t) (four-back-at t) four-back.Post
 four-back-returns t c =
     let ca = c .before .before in
     let r = ca .before .before .before in
     let st = r .before .before .before in
-    refused _ _ (back-lawful (now (st .args .rows))) (inside-placed _) (four-0 t st) (four-e1 t r) (ca .before .child-back .ensures) (was-refused _ (ca .child-answer .ensures) (c .enum-told .given .1))
+    refused _ _ (back-lawful (now (st .args .rows))) (inside-placed _) (four-0 t st) (same-word (r .before .child-row .ensures) (four-open-is t r)) (ca .before .child-back .ensures) (was-refused _ (ca .child-answer .ensures) (c .enum-told .given .1))
 
 four-back-child-back-requires-2 : (t : ℕ) → four-back-lts.Need-child-back-requires-2 (four-claims t) (four-back-at t) four-back.Post
 four-back-child-back-requires-2 t c κs =
     let r = c .before in
     let st = (four-past1 t (r .before)) .before .before .before in
-    with-read (st .pre .1 .1) (next-child _ _ (back-lawful (now (st .args .rows))) (inside-placed _) (four-1 t (r .before)) (four-e2 t r) (omega arith) (st .pre .0) (st .pre .1 .2))
+    with-read (st .pre .1 .1) (next-child _ _ (back-lawful (now (st .args .rows))) (inside-placed _) (four-1 t (r .before)) (same-word (r .child-row2 .ensures) (four-open-is t (four-past1 t (r .before)))) (omega arith) (st .pre .0) (st .pre .1 .2))
 
 four-back-returns-2 : (t : ℕ) → four-back-lts.Need-returns-2 (four-claims t) (four-back-at t) four-back.Post
 four-back-returns-2 t c =
     let ca = c .before .before in
     let r = ca .before .before .before in
     let st = (four-past1 t (r .before)) .before .before .before in
-    refused _ _ (back-lawful (now (st .args .rows))) (inside-placed _) (four-1 t (r .before)) (four-e2 t r) (ca .before .child-back2 .ensures) (was-refused _ (ca .child-answer2 .ensures) (c .enum-told2 .given .1))
+    refused _ _ (back-lawful (now (st .args .rows))) (inside-placed _) (four-1 t (r .before)) (same-word (r .child-row2 .ensures) (four-open-is t (four-past1 t (r .before)))) (ca .before .child-back2 .ensures) (was-refused _ (ca .child-answer2 .ensures) (c .enum-told2 .given .1))
 
 four-back-child-back-requires-3 : (t : ℕ) → four-back-lts.Need-child-back-requires-3 (four-claims t) (four-back-at t) four-back.Post
 four-back-child-back-requires-3 t c κs =
     let r = c .before in
     let st = (four-past2 t (r .before)) .before .before .before in
-    with-read (st .pre .1 .1) (next-child _ _ (back-lawful (now (st .args .rows))) (inside-placed _) (four-2 t (r .before)) (four-e3 t r) (omega arith) (st .pre .0) (st .pre .1 .2))
+    with-read (st .pre .1 .1) (next-child _ _ (back-lawful (now (st .args .rows))) (inside-placed _) (four-2 t (r .before)) (same-word (r .child-row3 .ensures) (four-open-is t (four-past2 t (r .before)))) (omega arith) (st .pre .0) (st .pre .1 .2))
 
 four-back-returns-3 : (t : ℕ) → four-back-lts.Need-returns-3 (four-claims t) (four-back-at t) four-back.Post
 four-back-returns-3 t c =
     let ca = c .before .before in
     let r = ca .before .before .before in
     let st = (four-past2 t (r .before)) .before .before .before in
-    refused _ _ (back-lawful (now (st .args .rows))) (inside-placed _) (four-2 t (r .before)) (four-e3 t r) (ca .before .child-back3 .ensures) (was-refused _ (ca .child-answer3 .ensures) (c .enum-told3 .given .1))
+    refused _ _ (back-lawful (now (st .args .rows))) (inside-placed _) (four-2 t (r .before)) (same-word (r .child-row3 .ensures) (four-open-is t (four-past2 t (r .before)))) (ca .before .child-back3 .ensures) (was-refused _ (ca .child-answer3 .ensures) (c .enum-told3 .given .1))
 
 four-back-child-back-requires-4 : (t : ℕ) → four-back-lts.Need-child-back-requires-4 (four-claims t) (four-back-at t) four-back.Post
 four-back-child-back-requires-4 t c κs =
     let r = c .before in
     let st = (four-past3 t (r .before)) .before .before .before in
-    with-read (st .pre .1 .1) (next-child _ _ (back-lawful (now (st .args .rows))) (inside-placed _) (four-3 t (r .before)) (four-e4 t r) (omega arith) (st .pre .0) (st .pre .1 .2))
+    with-read (st .pre .1 .1) (next-child _ _ (back-lawful (now (st .args .rows))) (inside-placed _) (four-3 t (r .before)) (same-word (r .child-row4 .ensures) (four-open-is t (four-past3 t (r .before)))) (omega arith) (st .pre .0) (st .pre .1 .2))
 
 four-back-returns-4 : (t : ℕ) → four-back-lts.Need-returns-4 (four-claims t) (four-back-at t) four-back.Post
 four-back-returns-4 t c =
     let w = c .before .before .before in
     let r = w .before .before in
-    last _ _ (four-3 t (r .before)) (four-e4 t r) (w .child-back4 .ensures)
+    last _ _ (four-3 t (r .before)) (same-word (r .child-row4 .ensures) (four-open-is t (four-past3 t (r .before)))) (w .child-back4 .ensures)
 
 four-back-returns-5 : (t : ℕ) → four-back-lts.Need-returns-5 (four-claims t) (four-back-at t) four-back.Post
 four-back-returns-5 t c =
     let ca = c .before .before .before in
     let w = ca .before in
     let r = w .before .before in
-    ended _ _ (four-3 t (r .before)) (four-e4 t r) (w .child-back4 .ensures) (was-walked _ (ca .child-answer4 .ensures) (c .before .c4 .given .1))
+    ended _ _ (four-3 t (r .before)) (same-word (r .child-row4 .ensures) (four-open-is t (four-past3 t (r .before)))) (w .child-back4 .ensures) (was-walked _ (ca .child-answer4 .ensures) (c .before .c4 .given .1))
 
 node-back-returns : (t : ℕ) → node-back-lts.Need-returns (node-claims t) (node-back-at t) node-back.Post
 node-back-returns t c =
@@ -427,17 +381,8 @@ three-past2 t k = three-past1 t (k .before .before .before .before .before .befo
 three-open-is : (t : ℕ) (r : three-back-lts.After-open-below (three-claims t) (three-back-at t) three-back.Post) → r .open-below .result ≡ three-open t (r .before .before .before)
 three-open-is t r = let st = r .before .before .before in same-open (now (st .args .u)) (st .args .bound) 0 (r .before .first-third .ensures) refl (r .open-below .ensures)
 
-three-e1 : (t : ℕ) (r : three-back-lts.After-open-below (three-claims t) (three-back-at t) three-back.Post) → let st = r .before .before .before in word (r .before .first-third .result) (r .open-below .result) ≡ word (childRow (st .args .row) (Ternary (st .args .v)) 0) (three-open t st)
-three-e1 t r = same-word (r .before .first-third .ensures) (three-open-is t r)
-
 three-middle-is : (t : ℕ) (r : three-back-lts.After-open-below2 (three-claims t) (three-back-at t) three-back.Post) → r .open-below2 .result ≡ three-middle t ((three-past1 t (r .before .before .before)) .before .before .before)
 three-middle-is t r = let st = (three-past1 t (r .before .before .before)) .before .before .before in same-open (now (st .args .u)) (st .args .bound) 0 (r .before .before .middle-third .ensures) (r .before .middle-cuts .ensures .0) (r .open-below2 .ensures)
-
-three-e2 : (t : ℕ) (r : three-back-lts.After-open-below2 (three-claims t) (three-back-at t) three-back.Post) → let st = (three-past1 t (r .before .before .before)) .before .before .before in word (r .before .before .middle-third .result) (r .open-below2 .result) ≡ word (childRow (st .args .row) (Ternary (st .args .v)) 1) (three-middle t st)
-three-e2 t r = same-word (r .before .before .middle-third .ensures) (three-middle-is t r)
-
-three-e3 : (t : ℕ) (r : three-back-lts.After-last-third (three-claims t) (three-back-at t) three-back.Post) → let st = (three-past2 t (r .before)) .before .before .before in word (r .last-third .result) ((three-past2 t (r .before)) .open-below .result) ≡ word (childRow (st .args .row) (Ternary (st .args .v)) 2) (three-open t st)
-three-e3 t r = same-word (r .last-third .ensures) (three-open-is t (three-past2 t (r .before)))
 
 three-0 : (t : ℕ) (st : ThreeStart t) → ThreeSoFar t st 0 (st .args .c) (word (childRow (st .args .row) (Ternary (st .args .v)) 0) (three-open t st) ∷ word (childRow (st .args .row) (Ternary (st .args .v)) 1) (three-middle t st) ∷ word (childRow (st .args .row) (Ternary (st .args .v)) 2) (three-open t st) ∷ []) (now (st .args .flags))
 unfolding innerKids
@@ -448,59 +393,59 @@ three-1 t k =
     let ca = k .before .before .before in
     let r = ca .before .before .before in
     let st = r .before .before .before in
-    walked _ _ (back-lawful (now (st .args .rows))) (inside-placed _) (three-0 t st) (three-e1 t r) (ca .before .child-back .ensures) (was-walked _ (ca .child-answer .ensures) (k .before .c1 .given .1))
+    walked _ _ (back-lawful (now (st .args .rows))) (inside-placed _) (three-0 t st) (same-word (r .before .first-third .ensures) (three-open-is t r)) (ca .before .child-back .ensures) (was-walked _ (ca .child-answer .ensures) (k .before .c1 .given .1))
 
 three-2 : (t : ℕ) (k : three-back-lts.After-known-told2 (three-claims t) (three-back-at t) three-back.Post) → let st = three-past2 t k .before .before .before in ThreeSoFar t st 2 (k .before .c2 .given .0 .0) (word (childRow (st .args .row) (Ternary (st .args .v)) 2) (three-open t st) ∷ []) (k .before .before .before .before .child-back2 .last .1 .1 .0)
 three-2 t k =
     let ca = k .before .before .before in
     let r = ca .before .before .before in
     let st = (three-past1 t (r .before .before .before)) .before .before .before in
-    walked _ _ (back-lawful (now (st .args .rows))) (inside-placed _) (three-1 t (k .before .before .before .before .before .before .before .before .before)) (three-e2 t r) (ca .before .child-back2 .ensures) (was-walked _ (ca .child-answer2 .ensures) (k .before .c2 .given .1))
+    walked _ _ (back-lawful (now (st .args .rows))) (inside-placed _) (three-1 t (k .before .before .before .before .before .before .before .before .before)) (same-word (r .before .before .middle-third .ensures) (three-middle-is t r)) (ca .before .child-back2 .ensures) (was-walked _ (ca .child-answer2 .ensures) (k .before .c2 .given .1))
 
 three-back-child-back-requires : (t : ℕ) → three-back-lts.Need-child-back-requires (three-claims t) (three-back-at t) three-back.Post
 three-back-child-back-requires t c κs =
     let r = c .before in
     let st = r .before .before .before in
-    with-read (st .pre .1 .1) (next-child _ _ (back-lawful (now (st .args .rows))) (inside-placed _) (three-0 t st) (three-e1 t r) (omega arith) (st .pre .0) (st .pre .1 .2))
+    with-read (st .pre .1 .1) (next-child _ _ (back-lawful (now (st .args .rows))) (inside-placed _) (three-0 t st) (same-word (r .before .first-third .ensures) (three-open-is t r)) (omega arith) (st .pre .0) (st .pre .1 .2))
 
 three-back-returns : (t : ℕ) → three-back-lts.Need-returns (three-claims t) (three-back-at t) three-back.Post
 three-back-returns t c =
     let ca = c .before .before in
     let r = ca .before .before .before in
     let st = r .before .before .before in
-    refused _ _ (back-lawful (now (st .args .rows))) (inside-placed _) (three-0 t st) (three-e1 t r) (ca .before .child-back .ensures) (was-refused _ (ca .child-answer .ensures) (c .enum-told .given .1))
+    refused _ _ (back-lawful (now (st .args .rows))) (inside-placed _) (three-0 t st) (same-word (r .before .first-third .ensures) (three-open-is t r)) (ca .before .child-back .ensures) (was-refused _ (ca .child-answer .ensures) (c .enum-told .given .1))
 
 three-back-child-back-requires-2 : (t : ℕ) → three-back-lts.Need-child-back-requires-2 (three-claims t) (three-back-at t) three-back.Post
 three-back-child-back-requires-2 t c κs =
     let r = c .before in
     let st = (three-past1 t (r .before .before .before)) .before .before .before in
-    with-read (st .pre .1 .1) (next-child _ _ (back-lawful (now (st .args .rows))) (inside-placed _) (three-1 t (r .before .before .before)) (three-e2 t r) (omega arith) (st .pre .0) (st .pre .1 .2))
+    with-read (st .pre .1 .1) (next-child _ _ (back-lawful (now (st .args .rows))) (inside-placed _) (three-1 t (r .before .before .before)) (same-word (r .before .before .middle-third .ensures) (three-middle-is t r)) (omega arith) (st .pre .0) (st .pre .1 .2))
 
 three-back-returns-2 : (t : ℕ) → three-back-lts.Need-returns-2 (three-claims t) (three-back-at t) three-back.Post
 three-back-returns-2 t c =
     let ca = c .before .before in
     let r = ca .before .before .before in
     let st = (three-past1 t (r .before .before .before)) .before .before .before in
-    refused _ _ (back-lawful (now (st .args .rows))) (inside-placed _) (three-1 t (r .before .before .before)) (three-e2 t r) (ca .before .child-back2 .ensures) (was-refused _ (ca .child-answer2 .ensures) (c .enum-told2 .given .1))
+    refused _ _ (back-lawful (now (st .args .rows))) (inside-placed _) (three-1 t (r .before .before .before)) (same-word (r .before .before .middle-third .ensures) (three-middle-is t r)) (ca .before .child-back2 .ensures) (was-refused _ (ca .child-answer2 .ensures) (c .enum-told2 .given .1))
 
 three-back-child-back-requires-3 : (t : ℕ) → three-back-lts.Need-child-back-requires-3 (three-claims t) (three-back-at t) three-back.Post
 three-back-child-back-requires-3 t c κs =
     let r = c .before in
     let st = (three-past2 t (r .before)) .before .before .before in
-    with-read (st .pre .1 .1) (next-child _ _ (back-lawful (now (st .args .rows))) (inside-placed _) (three-2 t (r .before)) (three-e3 t r) (omega arith) (st .pre .0) (st .pre .1 .2))
+    with-read (st .pre .1 .1) (next-child _ _ (back-lawful (now (st .args .rows))) (inside-placed _) (three-2 t (r .before)) (same-word (r .last-third .ensures) (three-open-is t (three-past2 t (r .before)))) (omega arith) (st .pre .0) (st .pre .1 .2))
 
 three-back-returns-3 : (t : ℕ) → three-back-lts.Need-returns-3 (three-claims t) (three-back-at t) three-back.Post
 three-back-returns-3 t c =
     let w = c .before .before .before in
     let r = w .before .before in
-    last _ _ (three-2 t (r .before)) (three-e3 t r) (w .child-back3 .ensures)
+    last _ _ (three-2 t (r .before)) (same-word (r .last-third .ensures) (three-open-is t (three-past2 t (r .before)))) (w .child-back3 .ensures)
 
 three-back-returns-4 : (t : ℕ) → three-back-lts.Need-returns-4 (three-claims t) (three-back-at t) three-back.Post
 three-back-returns-4 t c =
     let ca = c .before .before .before in
     let w = ca .before in
     let r = w .before .before in
-    ended _ _ (three-2 t (r .before)) (three-e3 t r) (w .child-back3 .ensures) (was-walked _ (ca .child-answer3 .ensures) (c .before .c3 .given .1))
+    ended _ _ (three-2 t (r .before)) (same-word (r .last-third .ensures) (three-open-is t (three-past2 t (r .before)))) (w .child-back3 .ensures) (was-walked _ (ca .child-answer3 .ensures) (c .before .c3 .given .1))
 
 -- ---- two_back: its children, one after the other
 
@@ -522,12 +467,6 @@ two-past1 t k = k .before .before .before .before .before .before
 two-open-is : (t : ℕ) (r : two-back-lts.After-open-below (two-claims t) (two-back-at t) two-back.Post) → r .open-below .result ≡ two-open t (r .before .before .before .before)
 two-open-is t r = let st = r .before .before .before .before in same-open (now (st .args .u)) (st .args .bound) 0 (r .before .before .first-half .ensures) refl (r .open-below .ensures)
 
-two-e1 : (t : ℕ) (r : two-back-lts.After-open-below (two-claims t) (two-back-at t) two-back.Post) → let st = r .before .before .before .before in word (r .before .before .first-half .result) (r .open-below .result) ≡ word (childRow (st .args .row) (Binary (st .args .v)) 0) (two-open t st)
-two-e1 t r = same-word (r .before .before .first-half .ensures) (two-open-is t r)
-
-two-e2 : (t : ℕ) (r : two-back-lts.After-known-told (two-claims t) (two-back-at t) two-back.Post) → let st = (two-past1 t r) .before .before .before .before in word ((two-past1 t r) .before .second-half .result) ((two-past1 t r) .open-below .result) ≡ word (childRow (st .args .row) (Binary (st .args .v)) 1) (two-open t st)
-two-e2 t r = same-word ((two-past1 t r) .before .second-half .ensures) (two-open-is t (two-past1 t r))
-
 two-0 : (t : ℕ) (st : TwoStart t) → TwoSoFar t st 0 (st .args .c) (word (childRow (st .args .row) (Binary (st .args .v)) 0) (two-open t st) ∷ word (childRow (st .args .row) (Binary (st .args .v)) 1) (two-open t st) ∷ []) (now (st .args .flags))
 unfolding innerKids
 two-0 t st = begun _ _ (st .pre .1 .0)
@@ -537,39 +476,39 @@ two-1 t k =
     let ca = k .before .before .before in
     let r = ca .before .before .before in
     let st = r .before .before .before .before in
-    walked _ _ (back-lawful (now (st .args .rows))) (inside-placed _) (two-0 t st) (two-e1 t r) (ca .before .child-back .ensures) (was-walked _ (ca .child-answer .ensures) (k .before .c1 .given .1))
+    walked _ _ (back-lawful (now (st .args .rows))) (inside-placed _) (two-0 t st) (same-word (r .before .before .first-half .ensures) (two-open-is t r)) (ca .before .child-back .ensures) (was-walked _ (ca .child-answer .ensures) (k .before .c1 .given .1))
 
 two-back-child-back-requires : (t : ℕ) → two-back-lts.Need-child-back-requires (two-claims t) (two-back-at t) two-back.Post
 two-back-child-back-requires t c κs =
     let r = c .before in
     let st = r .before .before .before .before in
-    with-read (st .pre .1 .1) (next-child _ _ (back-lawful (now (st .args .rows))) (inside-placed _) (two-0 t st) (two-e1 t r) (omega arith) (st .pre .0) (st .pre .1 .2))
+    with-read (st .pre .1 .1) (next-child _ _ (back-lawful (now (st .args .rows))) (inside-placed _) (two-0 t st) (same-word (r .before .before .first-half .ensures) (two-open-is t r)) (omega arith) (st .pre .0) (st .pre .1 .2))
 
 two-back-returns : (t : ℕ) → two-back-lts.Need-returns (two-claims t) (two-back-at t) two-back.Post
 two-back-returns t c =
     let ca = c .before .before in
     let r = ca .before .before .before in
     let st = r .before .before .before .before in
-    refused _ _ (back-lawful (now (st .args .rows))) (inside-placed _) (two-0 t st) (two-e1 t r) (ca .before .child-back .ensures) (was-refused _ (ca .child-answer .ensures) (c .enum-told .given .1))
+    refused _ _ (back-lawful (now (st .args .rows))) (inside-placed _) (two-0 t st) (same-word (r .before .before .first-half .ensures) (two-open-is t r)) (ca .before .child-back .ensures) (was-refused _ (ca .child-answer .ensures) (c .enum-told .given .1))
 
 two-back-child-back-requires-2 : (t : ℕ) → two-back-lts.Need-child-back-requires-2 (two-claims t) (two-back-at t) two-back.Post
 two-back-child-back-requires-2 t c κs =
     let r = c .before in
     let st = (two-past1 t r) .before .before .before .before in
-    with-read (st .pre .1 .1) (next-child _ _ (back-lawful (now (st .args .rows))) (inside-placed _) (two-1 t r) (two-e2 t r) (omega arith) (st .pre .0) (st .pre .1 .2))
+    with-read (st .pre .1 .1) (next-child _ _ (back-lawful (now (st .args .rows))) (inside-placed _) (two-1 t r) (same-word ((two-past1 t r) .before .second-half .ensures) (two-open-is t (two-past1 t r))) (omega arith) (st .pre .0) (st .pre .1 .2))
 
 two-back-returns-2 : (t : ℕ) → two-back-lts.Need-returns-2 (two-claims t) (two-back-at t) two-back.Post
 two-back-returns-2 t c =
     let w = c .before .before .before in
     let r = w .before .before in
-    last _ _ (two-1 t r) (two-e2 t r) (w .child-back2 .ensures)
+    last _ _ (two-1 t r) (same-word ((two-past1 t r) .before .second-half .ensures) (two-open-is t (two-past1 t r))) (w .child-back2 .ensures)
 
 two-back-returns-3 : (t : ℕ) → two-back-lts.Need-returns-3 (two-claims t) (two-back-at t) two-back.Post
 two-back-returns-3 t c =
     let ca = c .before .before .before in
     let w = ca .before in
     let r = w .before .before in
-    ended _ _ (two-1 t r) (two-e2 t r) (w .child-back2 .ensures) (was-walked _ (ca .child-answer2 .ensures) (c .before .c2 .given .1))
+    ended _ _ (two-1 t r) (same-word ((two-past1 t r) .before .second-half .ensures) (two-open-is t (two-past1 t r))) (w .child-back2 .ensures) (was-walked _ (ca .child-answer2 .ensures) (c .before .c2 .given .1))
 
 pub +child-back+children-back+four-back+node-back+three-back+two-back-spec :
     {M : Type 1} → statement M

@@ -1,4 +1,4 @@
-use Prim.Native.Nat.{ℕ, _+_, _*_, _<_}
+use Prim.Native.Nat.{ℕ, _+_, _*_}
 use mathlib.Core.Path.{_≡_, refl, sym, ap₂, _∙_}
 use mathlib.Core.List.{List, [], _∷_}
 use native.Mathlib.Omega.{arith}
@@ -26,7 +26,8 @@ use Rattle.parser.proofs.Seen.{moves, walked-refused, turned}
 use Rattle.parser.proofs.Decided.{out-splits, out-sees}
 use Rattle.walks.proofs.KidWords.{out-none, out-four, out-two, out-three}
 use borrow.Fn.Kinds.{In}
-use borrow.Fn.PlainCycle.{Measures, is, falls, and}
+use borrow.Fn.PlainCycle.{Measures}
+use Rattle.walks.proofs.Cycles.{at, below}
 use Rattle.parser.proofs.edge.child_walk.Reads as child-walk
 use Rattle.parser.proofs.edge.child_walk.Kinds as child-walk-kinds
 use Rattle.parser.proofs.edge.+child_walk+children_walk+four_walk+node_walk+pair_walk.Lts-child_walk as child-walk-lts
@@ -59,12 +60,8 @@ use Rattle.nodes.proofs.moved_to.Reads as moved-to-reads
 use Rattle.nodes.proofs.place.Reads as place-reads
 use Rattle.nodes.proofs.refusal.Reads as refusal-reads
 use Rattle.parser.proofs.inside.child_walk.Reads as child-walk-reads
-use Rattle.parser.proofs.edge.+child_walk+children_walk+four_walk+node_walk+pair_walk.{
-  statement,
-}
-use Rattle.parser.proofs.edge.+child_walk+children_walk+four_walk+node_walk+pair_walk.Tie.{
-  close,
-}
+use Rattle.parser.proofs.edge.+child_walk+children_walk+four_walk+node_walk+pair_walk.{statement}
+use Rattle.parser.proofs.edge.+child_walk+children_walk+four_walk+node_walk+pair_walk.Tie.{close}
 
 abbrev μ-child-walk : Measures 3 child-walk-kinds.ps ℕ
 μ-child-walk κs a = areaIn (a .1 .1 .1 .1 .0) * 4 + 3
@@ -82,61 +79,35 @@ abbrev μ-pair-walk : Measures 3 pair-walk-kinds.ps ℕ
 μ-pair-walk κs a = areasIn (word (a .1 .1 .1 .1 .0) (a .1 .1 .1 .1 .1 .1 .0) ∷ word (a .1 .1 .1 .1 .1 .0) (a .1 .1 .1 .1 .1 .1 .0) ∷ []) * 4
 
 abbrev child-walk-at : ℕ → In 3 child-walk-kinds.ps
-child-walk-at t =
-    and 3 child-walk-kinds.ps (is 3 child-walk-kinds.ps μ-child-walk t) child-walk.Pre
-
-abbrev child-walk-below : ℕ → In 3 child-walk-kinds.ps
-child-walk-below t =
-    and 3 child-walk-kinds.ps (falls 3 child-walk-kinds.ps _<_ μ-child-walk t) child-walk.Pre
+child-walk-at t = at 3 child-walk-kinds.ps μ-child-walk child-walk.Pre t
 
 abbrev children-walk-at : ℕ → In 3 children-walk-kinds.ps
-children-walk-at t =
-    and 3 children-walk-kinds.ps (is 3 children-walk-kinds.ps μ-children-walk t) children-walk.Pre
-
-abbrev children-walk-below : ℕ → In 3 children-walk-kinds.ps
-children-walk-below t =
-    and
-    3
-    children-walk-kinds.ps
-    (falls 3 children-walk-kinds.ps _<_ μ-children-walk t)
-    children-walk.Pre
+children-walk-at t = at 3 children-walk-kinds.ps μ-children-walk children-walk.Pre t
 
 abbrev four-walk-at : ℕ → In 3 four-walk-kinds.ps
-four-walk-at t = and 3 four-walk-kinds.ps (is 3 four-walk-kinds.ps μ-four-walk t) four-walk.Pre
-
-abbrev four-walk-below : ℕ → In 3 four-walk-kinds.ps
-four-walk-below t =
-    and 3 four-walk-kinds.ps (falls 3 four-walk-kinds.ps _<_ μ-four-walk t) four-walk.Pre
+four-walk-at t = at 3 four-walk-kinds.ps μ-four-walk four-walk.Pre t
 
 abbrev node-walk-at : ℕ → In 3 node-walk-kinds.ps
-node-walk-at t = and 3 node-walk-kinds.ps (is 3 node-walk-kinds.ps μ-node-walk t) node-walk.Pre
-
-abbrev node-walk-below : ℕ → In 3 node-walk-kinds.ps
-node-walk-below t =
-    and 3 node-walk-kinds.ps (falls 3 node-walk-kinds.ps _<_ μ-node-walk t) node-walk.Pre
+node-walk-at t = at 3 node-walk-kinds.ps μ-node-walk node-walk.Pre t
 
 abbrev pair-walk-at : ℕ → In 3 pair-walk-kinds.ps
-pair-walk-at t = and 3 pair-walk-kinds.ps (is 3 pair-walk-kinds.ps μ-pair-walk t) pair-walk.Pre
-
-abbrev pair-walk-below : ℕ → In 3 pair-walk-kinds.ps
-pair-walk-below t =
-    and 3 pair-walk-kinds.ps (falls 3 pair-walk-kinds.ps _<_ μ-pair-walk t) pair-walk.Pre
+pair-walk-at t = at 3 pair-walk-kinds.ps μ-pair-walk pair-walk.Pre t
 
 -- what the functions that each member calls ask and give
 abbrev child-claims : ℕ → child-walk-lts.Claims
-child-claims t = (begins-inside-reads.Asked, begins-inside-reads.Learnt, right-out-at-reads.Asked, right-out-at-reads.Learnt, bottom-out-at-reads.Asked, bottom-out-at-reads.Learnt, node-walk-below t, node-walk.Post, inner-splits-reads.Asked, inner-splits-reads.Learnt, bound-reads.Asked, bound-reads.Learnt, child-walk-reads.Asked, child-walk-reads.Learnt)
+child-claims t = (begins-inside-reads.Asked, begins-inside-reads.Learnt, right-out-at-reads.Asked, right-out-at-reads.Learnt, bottom-out-at-reads.Asked, bottom-out-at-reads.Learnt, below 3 node-walk-kinds.ps μ-node-walk node-walk.Pre t, node-walk.Post, inner-splits-reads.Asked, inner-splits-reads.Learnt, bound-reads.Asked, bound-reads.Learnt, child-walk-reads.Asked, child-walk-reads.Learnt)
 
 abbrev children-claims : ℕ → children-walk-lts.Claims
-children-claims t = (depth-above-reads.Asked, depth-above-reads.Learnt, four-walk-below t, four-walk.Post, depth-below-reads.Asked, depth-below-reads.Learnt, first-half-reads.Asked, first-half-reads.Learnt, second-half-reads.Asked, second-half-reads.Learnt, pair-walk-below t, pair-walk.Post)
+children-claims t = (depth-above-reads.Asked, depth-above-reads.Learnt, below 3 four-walk-kinds.ps μ-four-walk four-walk.Pre t, four-walk.Post, depth-below-reads.Asked, depth-below-reads.Learnt, first-half-reads.Asked, first-half-reads.Learnt, second-half-reads.Asked, second-half-reads.Learnt, below 3 pair-walk-kinds.ps μ-pair-walk pair-walk.Pre t, pair-walk.Post)
 
 abbrev four-claims : ℕ → four-walk-lts.Claims
-four-claims t = (child-row-reads.Asked, child-row-reads.Learnt, child-walk-below t, child-walk.Post, child-answer-reads.Asked, child-answer-reads.Learnt)
+four-claims t = (child-row-reads.Asked, child-row-reads.Learnt, below 3 child-walk-kinds.ps μ-child-walk child-walk.Pre t, child-walk.Post, child-answer-reads.Asked, child-answer-reads.Learnt)
 
 abbrev node-claims : ℕ → node-walk-lts.Claims
-node-claims t = (right-out-at-reads.Asked, right-out-at-reads.Learnt, bottom-out-at-reads.Asked, bottom-out-at-reads.Learnt, out-splits-reads.Asked, out-splits-reads.Learnt, place-reads.Asked, place-reads.Learnt, decide-out-reads.Asked, decide-out-reads.Learnt, refusal-reads.Asked, refusal-reads.Learnt, moved-to-reads.Asked, moved-to-reads.Learnt, children-walk-below t, children-walk.Post)
+node-claims t = (right-out-at-reads.Asked, right-out-at-reads.Learnt, bottom-out-at-reads.Asked, bottom-out-at-reads.Learnt, out-splits-reads.Asked, out-splits-reads.Learnt, place-reads.Asked, place-reads.Learnt, decide-out-reads.Asked, decide-out-reads.Learnt, refusal-reads.Asked, refusal-reads.Learnt, moved-to-reads.Asked, moved-to-reads.Learnt, below 3 children-walk-kinds.ps μ-children-walk children-walk.Pre t, children-walk.Post)
 
 abbrev pair-claims : ℕ → pair-walk-lts.Claims
-pair-claims t = (child-walk-below t, child-walk.Post, child-answer-reads.Asked, child-answer-reads.Learnt)
+pair-claims t = (below 3 child-walk-kinds.ps μ-child-walk child-walk.Pre t, child-walk.Post, child-answer-reads.Asked, child-answer-reads.Learnt)
 
 child-walk-returns : (t : ℕ) → child-walk-lts.Need-returns (child-claims t) (child-walk-at t) child-walk.Post
 child-walk-returns t c =
@@ -238,18 +209,6 @@ abbrev four-past3 : (t : ℕ) → four-walk-lts.After-known-told3 (four-claims t
 four-past3 t k = four-past2 t (k .before .before .before .before .before .before .before)
 
 -- the numbers that the code has found for each
-four-e1 : (t : ℕ) (r : four-walk-lts.After-child-row (four-claims t) (four-walk-at t) four-walk.Post) → let st = r .before .before in word (r .child-row .result) (st .args .depths) ≡ word (childRow (st .args .row) Quad 0) (st .args .depths)
-four-e1 t r = same-word (r .child-row .ensures) refl
-
-four-e2 : (t : ℕ) (r : four-walk-lts.After-child-row2 (four-claims t) (four-walk-at t) four-walk.Post) → let st = (four-past1 t (r .before)) .before .before in word (r .child-row2 .result) (st .args .depths) ≡ word (childRow (st .args .row) Quad 1) (st .args .depths)
-four-e2 t r = same-word (r .child-row2 .ensures) refl
-
-four-e3 : (t : ℕ) (r : four-walk-lts.After-child-row3 (four-claims t) (four-walk-at t) four-walk.Post) → let st = (four-past2 t (r .before)) .before .before in word (r .child-row3 .result) (st .args .depths) ≡ word (childRow (st .args .row) Quad 2) (st .args .depths)
-four-e3 t r = same-word (r .child-row3 .ensures) refl
-
-four-e4 : (t : ℕ) (r : four-walk-lts.After-child-row4 (four-claims t) (four-walk-at t) four-walk.Post) → let st = (four-past3 t (r .before)) .before .before in word (r .child-row4 .result) (st .args .depths) ≡ word (childRow (st .args .row) Quad 3) (st .args .depths)
-four-e4 t r = same-word (r .child-row4 .ensures) refl
-
 four-0 : (t : ℕ) (st : FourStart t) → FourSoFar t st 0 (st .args .c) (word (childRow (st .args .row) Quad 0) (st .args .depths) ∷ word (childRow (st .args .row) Quad 1) (st .args .depths) ∷ word (childRow (st .args .row) Quad 2) (st .args .depths) ∷ word (childRow (st .args .row) Quad 3) (st .args .depths) ∷ []) (now (st .args .rows))
 four-0 t st = begun _ _ (st .pre .1 .0)
 
@@ -258,79 +217,79 @@ four-1 t k =
     let ca = k .before .before .before in
     let r = ca .before .before .before in
     let st = r .before .before in
-    walked _ _ (read-lawful (now (st .args .flags))) outer-placed (four-0 t st) (four-e1 t r) (ca .before .child-walk .ensures) (was-walked _ (ca .child-answer .ensures) (k .before .c1 .given .1))
+    walked _ _ (read-lawful (now (st .args .flags))) outer-placed (four-0 t st) (same-word (r .child-row .ensures) refl) (ca .before .child-walk .ensures) (was-walked _ (ca .child-answer .ensures) (k .before .c1 .given .1))
 
 four-2 : (t : ℕ) (k : four-walk-lts.After-known-told2 (four-claims t) (four-walk-at t) four-walk.Post) → let st = four-past2 t k .before .before in FourSoFar t st 2 (k .before .c2 .given .0 .0) (word (childRow (st .args .row) Quad 2) (st .args .depths) ∷ word (childRow (st .args .row) Quad 3) (st .args .depths) ∷ []) (k .before .before .before .before .child-walk2 .last .1 .1 .0)
 four-2 t k =
     let ca = k .before .before .before in
     let r = ca .before .before .before in
     let st = (four-past1 t (r .before)) .before .before in
-    walked _ _ (read-lawful (now (st .args .flags))) outer-placed (four-1 t (k .before .before .before .before .before .before .before)) (four-e2 t r) (ca .before .child-walk2 .ensures) (was-walked _ (ca .child-answer2 .ensures) (k .before .c2 .given .1))
+    walked _ _ (read-lawful (now (st .args .flags))) outer-placed (four-1 t (k .before .before .before .before .before .before .before)) (same-word (r .child-row2 .ensures) refl) (ca .before .child-walk2 .ensures) (was-walked _ (ca .child-answer2 .ensures) (k .before .c2 .given .1))
 
 four-3 : (t : ℕ) (k : four-walk-lts.After-known-told3 (four-claims t) (four-walk-at t) four-walk.Post) → let st = four-past3 t k .before .before in FourSoFar t st 3 (k .before .c3 .given .0 .0) (word (childRow (st .args .row) Quad 3) (st .args .depths) ∷ []) (k .before .before .before .before .child-walk3 .last .1 .1 .0)
 four-3 t k =
     let ca = k .before .before .before in
     let r = ca .before .before .before in
     let st = (four-past2 t (r .before)) .before .before in
-    walked _ _ (read-lawful (now (st .args .flags))) outer-placed (four-2 t (k .before .before .before .before .before .before .before)) (four-e3 t r) (ca .before .child-walk3 .ensures) (was-walked _ (ca .child-answer3 .ensures) (k .before .c3 .given .1))
+    walked _ _ (read-lawful (now (st .args .flags))) outer-placed (four-2 t (k .before .before .before .before .before .before .before)) (same-word (r .child-row3 .ensures) refl) (ca .before .child-walk3 .ensures) (was-walked _ (ca .child-answer3 .ensures) (k .before .c3 .given .1))
 
 four-walk-child-walk-requires : (t : ℕ) → four-walk-lts.Need-child-walk-requires (four-claims t) (four-walk-at t) four-walk.Post
 four-walk-child-walk-requires t c κs =
     let r = c .before in
     let st = r .before .before in
-    next-child _ _ (read-lawful (now (st .args .flags))) outer-placed (four-0 t st) (four-e1 t r) (omega arith) (st .pre .0) (st .pre .1 .1)
+    next-child _ _ (read-lawful (now (st .args .flags))) outer-placed (four-0 t st) (same-word (r .child-row .ensures) refl) (omega arith) (st .pre .0) (st .pre .1 .1)
 
 four-walk-returns : (t : ℕ) → four-walk-lts.Need-returns (four-claims t) (four-walk-at t) four-walk.Post
 four-walk-returns t c =
     let ca = c .before .before in
     let r = ca .before .before .before in
     let st = r .before .before in
-    refused _ _ (read-lawful (now (st .args .flags))) outer-placed (four-0 t st) (four-e1 t r) (ca .before .child-walk .ensures) (was-refused _ (ca .child-answer .ensures) (c .enum-told .given .1))
+    refused _ _ (read-lawful (now (st .args .flags))) outer-placed (four-0 t st) (same-word (r .child-row .ensures) refl) (ca .before .child-walk .ensures) (was-refused _ (ca .child-answer .ensures) (c .enum-told .given .1))
 
 four-walk-child-walk-requires-2 : (t : ℕ) → four-walk-lts.Need-child-walk-requires-2 (four-claims t) (four-walk-at t) four-walk.Post
 four-walk-child-walk-requires-2 t c κs =
     let r = c .before in
     let st = (four-past1 t (r .before)) .before .before in
-    next-child _ _ (read-lawful (now (st .args .flags))) outer-placed (four-1 t (r .before)) (four-e2 t r) (omega arith) (st .pre .0) (st .pre .1 .1)
+    next-child _ _ (read-lawful (now (st .args .flags))) outer-placed (four-1 t (r .before)) (same-word (r .child-row2 .ensures) refl) (omega arith) (st .pre .0) (st .pre .1 .1)
 
 four-walk-returns-2 : (t : ℕ) → four-walk-lts.Need-returns-2 (four-claims t) (four-walk-at t) four-walk.Post
 four-walk-returns-2 t c =
     let ca = c .before .before in
     let r = ca .before .before .before in
     let st = (four-past1 t (r .before)) .before .before in
-    refused _ _ (read-lawful (now (st .args .flags))) outer-placed (four-1 t (r .before)) (four-e2 t r) (ca .before .child-walk2 .ensures) (was-refused _ (ca .child-answer2 .ensures) (c .enum-told2 .given .1))
+    refused _ _ (read-lawful (now (st .args .flags))) outer-placed (four-1 t (r .before)) (same-word (r .child-row2 .ensures) refl) (ca .before .child-walk2 .ensures) (was-refused _ (ca .child-answer2 .ensures) (c .enum-told2 .given .1))
 
 four-walk-child-walk-requires-3 : (t : ℕ) → four-walk-lts.Need-child-walk-requires-3 (four-claims t) (four-walk-at t) four-walk.Post
 four-walk-child-walk-requires-3 t c κs =
     let r = c .before in
     let st = (four-past2 t (r .before)) .before .before in
-    next-child _ _ (read-lawful (now (st .args .flags))) outer-placed (four-2 t (r .before)) (four-e3 t r) (omega arith) (st .pre .0) (st .pre .1 .1)
+    next-child _ _ (read-lawful (now (st .args .flags))) outer-placed (four-2 t (r .before)) (same-word (r .child-row3 .ensures) refl) (omega arith) (st .pre .0) (st .pre .1 .1)
 
 four-walk-returns-3 : (t : ℕ) → four-walk-lts.Need-returns-3 (four-claims t) (four-walk-at t) four-walk.Post
 four-walk-returns-3 t c =
     let ca = c .before .before in
     let r = ca .before .before .before in
     let st = (four-past2 t (r .before)) .before .before in
-    refused _ _ (read-lawful (now (st .args .flags))) outer-placed (four-2 t (r .before)) (four-e3 t r) (ca .before .child-walk3 .ensures) (was-refused _ (ca .child-answer3 .ensures) (c .enum-told3 .given .1))
+    refused _ _ (read-lawful (now (st .args .flags))) outer-placed (four-2 t (r .before)) (same-word (r .child-row3 .ensures) refl) (ca .before .child-walk3 .ensures) (was-refused _ (ca .child-answer3 .ensures) (c .enum-told3 .given .1))
 
 four-walk-child-walk-requires-4 : (t : ℕ) → four-walk-lts.Need-child-walk-requires-4 (four-claims t) (four-walk-at t) four-walk.Post
 four-walk-child-walk-requires-4 t c κs =
     let r = c .before in
     let st = (four-past3 t (r .before)) .before .before in
-    next-child _ _ (read-lawful (now (st .args .flags))) outer-placed (four-3 t (r .before)) (four-e4 t r) (omega arith) (st .pre .0) (st .pre .1 .1)
+    next-child _ _ (read-lawful (now (st .args .flags))) outer-placed (four-3 t (r .before)) (same-word (r .child-row4 .ensures) refl) (omega arith) (st .pre .0) (st .pre .1 .1)
 
 four-walk-returns-4 : (t : ℕ) → four-walk-lts.Need-returns-4 (four-claims t) (four-walk-at t) four-walk.Post
 four-walk-returns-4 t c =
     let w = c .before .before .before in
     let r = w .before .before in
-    last _ _ (four-3 t (r .before)) (four-e4 t r) (w .child-walk4 .ensures)
+    last _ _ (four-3 t (r .before)) (same-word (r .child-row4 .ensures) refl) (w .child-walk4 .ensures)
 
 four-walk-returns-5 : (t : ℕ) → four-walk-lts.Need-returns-5 (four-claims t) (four-walk-at t) four-walk.Post
 four-walk-returns-5 t c =
     let ca = c .before .before .before in
     let w = ca .before in
     let r = w .before .before in
-    ended _ _ (four-3 t (r .before)) (four-e4 t r) (w .child-walk4 .ensures) (was-walked _ (ca .child-answer4 .ensures) (c .before .c4 .given .1))
+    ended _ _ (four-3 t (r .before)) (same-word (r .child-row4 .ensures) refl) (w .child-walk4 .ensures) (was-walked _ (ca .child-answer4 .ensures) (c .before .c4 .given .1))
 
 -- what is decided at its flags
 node-found : (t : ℕ) (de : node-walk-lts.After-decide-out (node-claims t) (node-walk-at t) node-walk.Post) {choice : Choice} → de .decide-out .result ≡ choice → let a = de .before .before .before .before .before .before .args in

@@ -1,4 +1,4 @@
-use Prim.Native.Nat.{ℕ, _+_, _*_, _<_, _≤_}
+use Prim.Native.Nat.{ℕ, _+_, _*_, _≤_}
 use mathlib.Core.Path.{_≡_, refl, sym, ap, subst, _∙_}
 use mathlib.Core.Bool.{true, false}
 use mathlib.Core.List.{List, [], _∷_}
@@ -26,7 +26,8 @@ use Rattle.parser.proofs.Way.{read-lawful, none-stored}
 use Rattle.parser.proofs.Seen.{row-fits, moves, moves-one, walked-refused, walked-leaf, turned}
 use Rattle.parser.proofs.Decided.{shut-sees, open-sees, zero-sees, end-sees, first-splits}
 use borrow.Fn.Kinds.{In}
-use borrow.Fn.PlainCycle.{Measures, is, falls, and}
+use borrow.Fn.PlainCycle.{Measures}
+use Rattle.walks.proofs.Cycles.{at, below}
 use Rattle.parser.proofs.inside.child_walk.Reads as child-walk
 use Rattle.parser.proofs.inside.child_walk.Kinds as child-walk-kinds
 use Rattle.parser.proofs.inside.+child_walk+children_walk+four_walk+node_walk+three_walk+two_walk.Lts-child_walk as child-walk-lts
@@ -61,12 +62,8 @@ use Rattle.nodes.proofs.place.Reads as place-reads
 use Rattle.nodes.proofs.refusal.Reads as refusal-reads
 use Rattle.parser.proofs.inside.leaf.Reads as leaf-reads
 use Rattle.parser.proofs.inside.zero_next.Reads as zero-next-reads
-use Rattle.parser.proofs.inside.+child_walk+children_walk+four_walk+node_walk+three_walk+two_walk.{
-  statement,
-}
-use Rattle.parser.proofs.inside.+child_walk+children_walk+four_walk+node_walk+three_walk+two_walk.Tie.{
-  close,
-}
+use Rattle.parser.proofs.inside.+child_walk+children_walk+four_walk+node_walk+three_walk+two_walk.{statement}
+use Rattle.parser.proofs.inside.+child_walk+children_walk+four_walk+node_walk+three_walk+two_walk.Tie.{close}
 
 abbrev μ-child-walk : Measures 3 child-walk-kinds.ps ℕ
 μ-child-walk κs a = areaIn (a .1 .1 .1 .1 .0) * 4 + 3
@@ -87,72 +84,41 @@ abbrev μ-two-walk : Measures 3 two-walk-kinds.ps ℕ
 μ-two-walk κs a = areasIn (innerKids (now (a .0)) (a .1 .1 .1 .1 .0) (a .1 .1 .1 .1 .1 .1 .0) (Binary (a .1 .1 .1 .1 .1 .0))) * 4
 
 abbrev child-walk-at : ℕ → In 3 child-walk-kinds.ps
-child-walk-at t =
-    and 3 child-walk-kinds.ps (is 3 child-walk-kinds.ps μ-child-walk t) child-walk.Pre
-
-abbrev child-walk-below : ℕ → In 3 child-walk-kinds.ps
-child-walk-below t =
-    and 3 child-walk-kinds.ps (falls 3 child-walk-kinds.ps _<_ μ-child-walk t) child-walk.Pre
+child-walk-at t = at 3 child-walk-kinds.ps μ-child-walk child-walk.Pre t
 
 abbrev children-walk-at : ℕ → In 3 children-walk-kinds.ps
-children-walk-at t =
-    and 3 children-walk-kinds.ps (is 3 children-walk-kinds.ps μ-children-walk t) children-walk.Pre
-
-abbrev children-walk-below : ℕ → In 3 children-walk-kinds.ps
-children-walk-below t =
-    and
-    3
-    children-walk-kinds.ps
-    (falls 3 children-walk-kinds.ps _<_ μ-children-walk t)
-    children-walk.Pre
+children-walk-at t = at 3 children-walk-kinds.ps μ-children-walk children-walk.Pre t
 
 abbrev four-walk-at : ℕ → In 3 four-walk-kinds.ps
-four-walk-at t = and 3 four-walk-kinds.ps (is 3 four-walk-kinds.ps μ-four-walk t) four-walk.Pre
-
-abbrev four-walk-below : ℕ → In 3 four-walk-kinds.ps
-four-walk-below t =
-    and 3 four-walk-kinds.ps (falls 3 four-walk-kinds.ps _<_ μ-four-walk t) four-walk.Pre
+four-walk-at t = at 3 four-walk-kinds.ps μ-four-walk four-walk.Pre t
 
 abbrev node-walk-at : ℕ → In 3 node-walk-kinds.ps
-node-walk-at t = and 3 node-walk-kinds.ps (is 3 node-walk-kinds.ps μ-node-walk t) node-walk.Pre
-
-abbrev node-walk-below : ℕ → In 3 node-walk-kinds.ps
-node-walk-below t =
-    and 3 node-walk-kinds.ps (falls 3 node-walk-kinds.ps _<_ μ-node-walk t) node-walk.Pre
+node-walk-at t = at 3 node-walk-kinds.ps μ-node-walk node-walk.Pre t
 
 abbrev three-walk-at : ℕ → In 3 three-walk-kinds.ps
-three-walk-at t =
-    and 3 three-walk-kinds.ps (is 3 three-walk-kinds.ps μ-three-walk t) three-walk.Pre
-
-abbrev three-walk-below : ℕ → In 3 three-walk-kinds.ps
-three-walk-below t =
-    and 3 three-walk-kinds.ps (falls 3 three-walk-kinds.ps _<_ μ-three-walk t) three-walk.Pre
+three-walk-at t = at 3 three-walk-kinds.ps μ-three-walk three-walk.Pre t
 
 abbrev two-walk-at : ℕ → In 3 two-walk-kinds.ps
-two-walk-at t = and 3 two-walk-kinds.ps (is 3 two-walk-kinds.ps μ-two-walk t) two-walk.Pre
-
-abbrev two-walk-below : ℕ → In 3 two-walk-kinds.ps
-two-walk-below t =
-    and 3 two-walk-kinds.ps (falls 3 two-walk-kinds.ps _<_ μ-two-walk t) two-walk.Pre
+two-walk-at t = at 3 two-walk-kinds.ps μ-two-walk two-walk.Pre t
 
 -- what the functions that each member calls ask and give
 abbrev child-claims : ℕ → child-walk-lts.Claims
-child-claims t = (leaf-reads.Asked, leaf-reads.Learnt, zero-next-reads.Asked, zero-next-reads.Learnt, further-reads.Asked, further-reads.Learnt, node-walk-below t, node-walk.Post)
+child-claims t = (leaf-reads.Asked, leaf-reads.Learnt, zero-next-reads.Asked, zero-next-reads.Learnt, further-reads.Asked, further-reads.Learnt, below 3 node-walk-kinds.ps μ-node-walk node-walk.Pre t, node-walk.Post)
 
 abbrev children-claims : ℕ → children-walk-lts.Claims
-children-claims t = (four-walk-below t, four-walk.Post, two-walk-below t, two-walk.Post, three-walk-below t, three-walk.Post)
+children-claims t = (below 3 four-walk-kinds.ps μ-four-walk four-walk.Pre t, four-walk.Post, below 3 two-walk-kinds.ps μ-two-walk two-walk.Pre t, two-walk.Post, below 3 three-walk-kinds.ps μ-three-walk three-walk.Pre t, three-walk.Post)
 
 abbrev four-claims : ℕ → four-walk-lts.Claims
-four-claims t = (child-row-reads.Asked, child-row-reads.Learnt, open-below-reads.Asked, open-below-reads.Learnt, child-walk-below t, child-walk.Post, child-answer-reads.Asked, child-answer-reads.Learnt)
+four-claims t = (child-row-reads.Asked, child-row-reads.Learnt, open-below-reads.Asked, open-below-reads.Learnt, below 3 child-walk-kinds.ps μ-child-walk child-walk.Pre t, child-walk.Post, child-answer-reads.Asked, child-answer-reads.Learnt)
 
 abbrev node-claims : ℕ → node-walk-lts.Claims
-node-claims t = (place-reads.Asked, place-reads.Learnt, refusal-reads.Asked, refusal-reads.Learnt, decide-inside-reads.Asked, decide-inside-reads.Learnt, moved-to-reads.Asked, moved-to-reads.Learnt, children-walk-below t, children-walk.Post)
+node-claims t = (place-reads.Asked, place-reads.Learnt, refusal-reads.Asked, refusal-reads.Learnt, decide-inside-reads.Asked, decide-inside-reads.Learnt, moved-to-reads.Asked, moved-to-reads.Learnt, below 3 children-walk-kinds.ps μ-children-walk children-walk.Pre t, children-walk.Post)
 
 abbrev three-claims : ℕ → three-walk-lts.Claims
-three-claims t = (first-third-reads.Asked, first-third-reads.Learnt, open-below-reads.Asked, open-below-reads.Learnt, child-walk-below t, child-walk.Post, child-answer-reads.Asked, child-answer-reads.Learnt, middle-third-reads.Asked, middle-third-reads.Learnt, middle-cuts-reads.Asked, middle-cuts-reads.Learnt, last-third-reads.Asked, last-third-reads.Learnt)
+three-claims t = (first-third-reads.Asked, first-third-reads.Learnt, open-below-reads.Asked, open-below-reads.Learnt, below 3 child-walk-kinds.ps μ-child-walk child-walk.Pre t, child-walk.Post, child-answer-reads.Asked, child-answer-reads.Learnt, middle-third-reads.Asked, middle-third-reads.Learnt, middle-cuts-reads.Asked, middle-cuts-reads.Learnt, last-third-reads.Asked, last-third-reads.Learnt)
 
 abbrev two-claims : ℕ → two-walk-lts.Claims
-two-claims t = (first-half-reads.Asked, first-half-reads.Learnt, second-half-reads.Asked, second-half-reads.Learnt, open-below-reads.Asked, open-below-reads.Learnt, child-walk-below t, child-walk.Post, child-answer-reads.Asked, child-answer-reads.Learnt)
+two-claims t = (first-half-reads.Asked, first-half-reads.Learnt, second-half-reads.Asked, second-half-reads.Learnt, open-below-reads.Asked, open-below-reads.Learnt, below 3 child-walk-kinds.ps μ-child-walk child-walk.Pre t, child-walk.Post, child-answer-reads.Asked, child-answer-reads.Learnt)
 
 child-walk-leaf-requires : (t : ℕ) → child-walk-lts.Need-leaf-requires (child-claims t) (child-walk-at t) child-walk.Post
 child-walk-leaf-requires t c κs =
@@ -263,18 +229,6 @@ four-past3 t k = four-past2 t (k .before .before .before .before .before .before
 four-open-is : (t : ℕ) (r : four-walk-lts.After-open-below (four-claims t) (four-walk-at t) four-walk.Post) → r .open-below .result ≡ four-open t (r .before .before .before)
 four-open-is t r = let st = r .before .before .before in same-open (now (st .args .u)) (st .args .bound) 1 (r .before .child-row .ensures) refl (r .open-below .ensures)
 
-four-e1 : (t : ℕ) (r : four-walk-lts.After-open-below (four-claims t) (four-walk-at t) four-walk.Post) → let st = r .before .before .before in word (r .before .child-row .result) (r .open-below .result) ≡ word (childRow (st .args .row) Quad 0) (four-open t st)
-four-e1 t r = same-word (r .before .child-row .ensures) (four-open-is t r)
-
-four-e2 : (t : ℕ) (r : four-walk-lts.After-child-row2 (four-claims t) (four-walk-at t) four-walk.Post) → let st = (four-past1 t (r .before)) .before .before .before in word (r .child-row2 .result) ((four-past1 t (r .before)) .open-below .result) ≡ word (childRow (st .args .row) Quad 1) (four-open t st)
-four-e2 t r = same-word (r .child-row2 .ensures) (four-open-is t (four-past1 t (r .before)))
-
-four-e3 : (t : ℕ) (r : four-walk-lts.After-child-row3 (four-claims t) (four-walk-at t) four-walk.Post) → let st = (four-past2 t (r .before)) .before .before .before in word (r .child-row3 .result) ((four-past2 t (r .before)) .open-below .result) ≡ word (childRow (st .args .row) Quad 2) (four-open t st)
-four-e3 t r = same-word (r .child-row3 .ensures) (four-open-is t (four-past2 t (r .before)))
-
-four-e4 : (t : ℕ) (r : four-walk-lts.After-child-row4 (four-claims t) (four-walk-at t) four-walk.Post) → let st = (four-past3 t (r .before)) .before .before .before in word (r .child-row4 .result) ((four-past3 t (r .before)) .open-below .result) ≡ word (childRow (st .args .row) Quad 3) (four-open t st)
-four-e4 t r = same-word (r .child-row4 .ensures) (four-open-is t (four-past3 t (r .before)))
-
 four-0 : (t : ℕ) (st : FourStart t) → FourSoFar t st 0 (st .args .c) (word (childRow (st .args .row) Quad 0) (four-open t st) ∷ word (childRow (st .args .row) Quad 1) (four-open t st) ∷ word (childRow (st .args .row) Quad 2) (four-open t st) ∷ word (childRow (st .args .row) Quad 3) (four-open t st) ∷ []) (now (st .args .rows))
 unfolding innerKids
 four-0 t st = begun _ _ (st .pre .1 .0)
@@ -284,79 +238,79 @@ four-1 t k =
     let ca = k .before .before .before in
     let r = ca .before .before .before in
     let st = r .before .before .before in
-    walked _ _ (read-lawful (now (st .args .flags))) (inside-placed _) (four-0 t st) (four-e1 t r) (ca .before .child-walk .ensures) (was-walked _ (ca .child-answer .ensures) (k .before .c1 .given .1))
+    walked _ _ (read-lawful (now (st .args .flags))) (inside-placed _) (four-0 t st) (same-word (r .before .child-row .ensures) (four-open-is t r)) (ca .before .child-walk .ensures) (was-walked _ (ca .child-answer .ensures) (k .before .c1 .given .1))
 
 four-2 : (t : ℕ) (k : four-walk-lts.After-known-told2 (four-claims t) (four-walk-at t) four-walk.Post) → let st = four-past2 t k .before .before .before in FourSoFar t st 2 (k .before .c2 .given .0 .0) (word (childRow (st .args .row) Quad 2) (four-open t st) ∷ word (childRow (st .args .row) Quad 3) (four-open t st) ∷ []) (k .before .before .before .before .child-walk2 .last .1 .1 .0)
 four-2 t k =
     let ca = k .before .before .before in
     let r = ca .before .before .before in
     let st = (four-past1 t (r .before)) .before .before .before in
-    walked _ _ (read-lawful (now (st .args .flags))) (inside-placed _) (four-1 t (k .before .before .before .before .before .before .before)) (four-e2 t r) (ca .before .child-walk2 .ensures) (was-walked _ (ca .child-answer2 .ensures) (k .before .c2 .given .1))
+    walked _ _ (read-lawful (now (st .args .flags))) (inside-placed _) (four-1 t (k .before .before .before .before .before .before .before)) (same-word (r .child-row2 .ensures) (four-open-is t (four-past1 t (r .before)))) (ca .before .child-walk2 .ensures) (was-walked _ (ca .child-answer2 .ensures) (k .before .c2 .given .1))
 
 four-3 : (t : ℕ) (k : four-walk-lts.After-known-told3 (four-claims t) (four-walk-at t) four-walk.Post) → let st = four-past3 t k .before .before .before in FourSoFar t st 3 (k .before .c3 .given .0 .0) (word (childRow (st .args .row) Quad 3) (four-open t st) ∷ []) (k .before .before .before .before .child-walk3 .last .1 .1 .0)
 four-3 t k =
     let ca = k .before .before .before in
     let r = ca .before .before .before in
     let st = (four-past2 t (r .before)) .before .before .before in
-    walked _ _ (read-lawful (now (st .args .flags))) (inside-placed _) (four-2 t (k .before .before .before .before .before .before .before)) (four-e3 t r) (ca .before .child-walk3 .ensures) (was-walked _ (ca .child-answer3 .ensures) (k .before .c3 .given .1))
+    walked _ _ (read-lawful (now (st .args .flags))) (inside-placed _) (four-2 t (k .before .before .before .before .before .before .before)) (same-word (r .child-row3 .ensures) (four-open-is t (four-past2 t (r .before)))) (ca .before .child-walk3 .ensures) (was-walked _ (ca .child-answer3 .ensures) (k .before .c3 .given .1))
 
 four-walk-child-walk-requires : (t : ℕ) → four-walk-lts.Need-child-walk-requires (four-claims t) (four-walk-at t) four-walk.Post
 four-walk-child-walk-requires t c κs =
     let r = c .before in
     let st = r .before .before .before in
-    next-child _ _ (read-lawful (now (st .args .flags))) (inside-placed _) (four-0 t st) (four-e1 t r) (omega arith) (st .pre .0) (st .pre .1 .1)
+    next-child _ _ (read-lawful (now (st .args .flags))) (inside-placed _) (four-0 t st) (same-word (r .before .child-row .ensures) (four-open-is t r)) (omega arith) (st .pre .0) (st .pre .1 .1)
 
 four-walk-returns : (t : ℕ) → four-walk-lts.Need-returns (four-claims t) (four-walk-at t) four-walk.Post
 four-walk-returns t c =
     let ca = c .before .before in
     let r = ca .before .before .before in
     let st = r .before .before .before in
-    refused _ _ (read-lawful (now (st .args .flags))) (inside-placed _) (four-0 t st) (four-e1 t r) (ca .before .child-walk .ensures) (was-refused _ (ca .child-answer .ensures) (c .enum-told .given .1))
+    refused _ _ (read-lawful (now (st .args .flags))) (inside-placed _) (four-0 t st) (same-word (r .before .child-row .ensures) (four-open-is t r)) (ca .before .child-walk .ensures) (was-refused _ (ca .child-answer .ensures) (c .enum-told .given .1))
 
 four-walk-child-walk-requires-2 : (t : ℕ) → four-walk-lts.Need-child-walk-requires-2 (four-claims t) (four-walk-at t) four-walk.Post
 four-walk-child-walk-requires-2 t c κs =
     let r = c .before in
     let st = (four-past1 t (r .before)) .before .before .before in
-    next-child _ _ (read-lawful (now (st .args .flags))) (inside-placed _) (four-1 t (r .before)) (four-e2 t r) (omega arith) (st .pre .0) (st .pre .1 .1)
+    next-child _ _ (read-lawful (now (st .args .flags))) (inside-placed _) (four-1 t (r .before)) (same-word (r .child-row2 .ensures) (four-open-is t (four-past1 t (r .before)))) (omega arith) (st .pre .0) (st .pre .1 .1)
 
 four-walk-returns-2 : (t : ℕ) → four-walk-lts.Need-returns-2 (four-claims t) (four-walk-at t) four-walk.Post
 four-walk-returns-2 t c =
     let ca = c .before .before in
     let r = ca .before .before .before in
     let st = (four-past1 t (r .before)) .before .before .before in
-    refused _ _ (read-lawful (now (st .args .flags))) (inside-placed _) (four-1 t (r .before)) (four-e2 t r) (ca .before .child-walk2 .ensures) (was-refused _ (ca .child-answer2 .ensures) (c .enum-told2 .given .1))
+    refused _ _ (read-lawful (now (st .args .flags))) (inside-placed _) (four-1 t (r .before)) (same-word (r .child-row2 .ensures) (four-open-is t (four-past1 t (r .before)))) (ca .before .child-walk2 .ensures) (was-refused _ (ca .child-answer2 .ensures) (c .enum-told2 .given .1))
 
 four-walk-child-walk-requires-3 : (t : ℕ) → four-walk-lts.Need-child-walk-requires-3 (four-claims t) (four-walk-at t) four-walk.Post
 four-walk-child-walk-requires-3 t c κs =
     let r = c .before in
     let st = (four-past2 t (r .before)) .before .before .before in
-    next-child _ _ (read-lawful (now (st .args .flags))) (inside-placed _) (four-2 t (r .before)) (four-e3 t r) (omega arith) (st .pre .0) (st .pre .1 .1)
+    next-child _ _ (read-lawful (now (st .args .flags))) (inside-placed _) (four-2 t (r .before)) (same-word (r .child-row3 .ensures) (four-open-is t (four-past2 t (r .before)))) (omega arith) (st .pre .0) (st .pre .1 .1)
 
 four-walk-returns-3 : (t : ℕ) → four-walk-lts.Need-returns-3 (four-claims t) (four-walk-at t) four-walk.Post
 four-walk-returns-3 t c =
     let ca = c .before .before in
     let r = ca .before .before .before in
     let st = (four-past2 t (r .before)) .before .before .before in
-    refused _ _ (read-lawful (now (st .args .flags))) (inside-placed _) (four-2 t (r .before)) (four-e3 t r) (ca .before .child-walk3 .ensures) (was-refused _ (ca .child-answer3 .ensures) (c .enum-told3 .given .1))
+    refused _ _ (read-lawful (now (st .args .flags))) (inside-placed _) (four-2 t (r .before)) (same-word (r .child-row3 .ensures) (four-open-is t (four-past2 t (r .before)))) (ca .before .child-walk3 .ensures) (was-refused _ (ca .child-answer3 .ensures) (c .enum-told3 .given .1))
 
 four-walk-child-walk-requires-4 : (t : ℕ) → four-walk-lts.Need-child-walk-requires-4 (four-claims t) (four-walk-at t) four-walk.Post
 four-walk-child-walk-requires-4 t c κs =
     let r = c .before in
     let st = (four-past3 t (r .before)) .before .before .before in
-    next-child _ _ (read-lawful (now (st .args .flags))) (inside-placed _) (four-3 t (r .before)) (four-e4 t r) (omega arith) (st .pre .0) (st .pre .1 .1)
+    next-child _ _ (read-lawful (now (st .args .flags))) (inside-placed _) (four-3 t (r .before)) (same-word (r .child-row4 .ensures) (four-open-is t (four-past3 t (r .before)))) (omega arith) (st .pre .0) (st .pre .1 .1)
 
 four-walk-returns-4 : (t : ℕ) → four-walk-lts.Need-returns-4 (four-claims t) (four-walk-at t) four-walk.Post
 four-walk-returns-4 t c =
     let w = c .before .before .before in
     let r = w .before .before in
-    last _ _ (four-3 t (r .before)) (four-e4 t r) (w .child-walk4 .ensures)
+    last _ _ (four-3 t (r .before)) (same-word (r .child-row4 .ensures) (four-open-is t (four-past3 t (r .before)))) (w .child-walk4 .ensures)
 
 four-walk-returns-5 : (t : ℕ) → four-walk-lts.Need-returns-5 (four-claims t) (four-walk-at t) four-walk.Post
 four-walk-returns-5 t c =
     let ca = c .before .before .before in
     let w = ca .before in
     let r = w .before .before in
-    ended _ _ (four-3 t (r .before)) (four-e4 t r) (w .child-walk4 .ensures) (was-walked _ (ca .child-answer4 .ensures) (c .before .c4 .given .1))
+    ended _ _ (four-3 t (r .before)) (same-word (r .child-row4 .ensures) (four-open-is t (four-past3 t (r .before)))) (w .child-walk4 .ensures) (was-walked _ (ca .child-answer4 .ensures) (c .before .c4 .given .1))
 
 node-walk-returns : (t : ℕ) → node-walk-lts.Need-returns (node-claims t) (node-walk-at t) node-walk.Post
 node-walk-returns t c =
@@ -427,17 +381,8 @@ three-past2 t k = three-past1 t (k .before .before .before .before .before .befo
 three-open-is : (t : ℕ) (r : three-walk-lts.After-open-below (three-claims t) (three-walk-at t) three-walk.Post) → r .open-below .result ≡ three-open t (r .before .before .before)
 three-open-is t r = let st = r .before .before .before in same-open (now (st .args .u)) (st .args .bound) 0 (r .before .first-third .ensures) refl (r .open-below .ensures)
 
-three-e1 : (t : ℕ) (r : three-walk-lts.After-open-below (three-claims t) (three-walk-at t) three-walk.Post) → let st = r .before .before .before in word (r .before .first-third .result) (r .open-below .result) ≡ word (childRow (st .args .row) (Ternary (st .args .v)) 0) (three-open t st)
-three-e1 t r = same-word (r .before .first-third .ensures) (three-open-is t r)
-
 three-middle-is : (t : ℕ) (r : three-walk-lts.After-open-below2 (three-claims t) (three-walk-at t) three-walk.Post) → r .open-below2 .result ≡ three-middle t ((three-past1 t (r .before .before .before)) .before .before .before)
 three-middle-is t r = let st = (three-past1 t (r .before .before .before)) .before .before .before in same-open (now (st .args .u)) (st .args .bound) 0 (r .before .before .middle-third .ensures) (r .before .middle-cuts .ensures .0) (r .open-below2 .ensures)
-
-three-e2 : (t : ℕ) (r : three-walk-lts.After-open-below2 (three-claims t) (three-walk-at t) three-walk.Post) → let st = (three-past1 t (r .before .before .before)) .before .before .before in word (r .before .before .middle-third .result) (r .open-below2 .result) ≡ word (childRow (st .args .row) (Ternary (st .args .v)) 1) (three-middle t st)
-three-e2 t r = same-word (r .before .before .middle-third .ensures) (three-middle-is t r)
-
-three-e3 : (t : ℕ) (r : three-walk-lts.After-last-third (three-claims t) (three-walk-at t) three-walk.Post) → let st = (three-past2 t (r .before)) .before .before .before in word (r .last-third .result) ((three-past2 t (r .before)) .open-below .result) ≡ word (childRow (st .args .row) (Ternary (st .args .v)) 2) (three-open t st)
-three-e3 t r = same-word (r .last-third .ensures) (three-open-is t (three-past2 t (r .before)))
 
 three-0 : (t : ℕ) (st : ThreeStart t) → ThreeSoFar t st 0 (st .args .c) (word (childRow (st .args .row) (Ternary (st .args .v)) 0) (three-open t st) ∷ word (childRow (st .args .row) (Ternary (st .args .v)) 1) (three-middle t st) ∷ word (childRow (st .args .row) (Ternary (st .args .v)) 2) (three-open t st) ∷ []) (now (st .args .rows))
 unfolding innerKids
@@ -448,59 +393,59 @@ three-1 t k =
     let ca = k .before .before .before in
     let r = ca .before .before .before in
     let st = r .before .before .before in
-    walked _ _ (read-lawful (now (st .args .flags))) (inside-placed _) (three-0 t st) (three-e1 t r) (ca .before .child-walk .ensures) (was-walked _ (ca .child-answer .ensures) (k .before .c1 .given .1))
+    walked _ _ (read-lawful (now (st .args .flags))) (inside-placed _) (three-0 t st) (same-word (r .before .first-third .ensures) (three-open-is t r)) (ca .before .child-walk .ensures) (was-walked _ (ca .child-answer .ensures) (k .before .c1 .given .1))
 
 three-2 : (t : ℕ) (k : three-walk-lts.After-known-told2 (three-claims t) (three-walk-at t) three-walk.Post) → let st = three-past2 t k .before .before .before in ThreeSoFar t st 2 (k .before .c2 .given .0 .0) (word (childRow (st .args .row) (Ternary (st .args .v)) 2) (three-open t st) ∷ []) (k .before .before .before .before .child-walk2 .last .1 .1 .0)
 three-2 t k =
     let ca = k .before .before .before in
     let r = ca .before .before .before in
     let st = (three-past1 t (r .before .before .before)) .before .before .before in
-    walked _ _ (read-lawful (now (st .args .flags))) (inside-placed _) (three-1 t (k .before .before .before .before .before .before .before .before .before)) (three-e2 t r) (ca .before .child-walk2 .ensures) (was-walked _ (ca .child-answer2 .ensures) (k .before .c2 .given .1))
+    walked _ _ (read-lawful (now (st .args .flags))) (inside-placed _) (three-1 t (k .before .before .before .before .before .before .before .before .before)) (same-word (r .before .before .middle-third .ensures) (three-middle-is t r)) (ca .before .child-walk2 .ensures) (was-walked _ (ca .child-answer2 .ensures) (k .before .c2 .given .1))
 
 three-walk-child-walk-requires : (t : ℕ) → three-walk-lts.Need-child-walk-requires (three-claims t) (three-walk-at t) three-walk.Post
 three-walk-child-walk-requires t c κs =
     let r = c .before in
     let st = r .before .before .before in
-    next-child _ _ (read-lawful (now (st .args .flags))) (inside-placed _) (three-0 t st) (three-e1 t r) (omega arith) (st .pre .0) (st .pre .1 .1)
+    next-child _ _ (read-lawful (now (st .args .flags))) (inside-placed _) (three-0 t st) (same-word (r .before .first-third .ensures) (three-open-is t r)) (omega arith) (st .pre .0) (st .pre .1 .1)
 
 three-walk-returns : (t : ℕ) → three-walk-lts.Need-returns (three-claims t) (three-walk-at t) three-walk.Post
 three-walk-returns t c =
     let ca = c .before .before in
     let r = ca .before .before .before in
     let st = r .before .before .before in
-    refused _ _ (read-lawful (now (st .args .flags))) (inside-placed _) (three-0 t st) (three-e1 t r) (ca .before .child-walk .ensures) (was-refused _ (ca .child-answer .ensures) (c .enum-told .given .1))
+    refused _ _ (read-lawful (now (st .args .flags))) (inside-placed _) (three-0 t st) (same-word (r .before .first-third .ensures) (three-open-is t r)) (ca .before .child-walk .ensures) (was-refused _ (ca .child-answer .ensures) (c .enum-told .given .1))
 
 three-walk-child-walk-requires-2 : (t : ℕ) → three-walk-lts.Need-child-walk-requires-2 (three-claims t) (three-walk-at t) three-walk.Post
 three-walk-child-walk-requires-2 t c κs =
     let r = c .before in
     let st = (three-past1 t (r .before .before .before)) .before .before .before in
-    next-child _ _ (read-lawful (now (st .args .flags))) (inside-placed _) (three-1 t (r .before .before .before)) (three-e2 t r) (omega arith) (st .pre .0) (st .pre .1 .1)
+    next-child _ _ (read-lawful (now (st .args .flags))) (inside-placed _) (three-1 t (r .before .before .before)) (same-word (r .before .before .middle-third .ensures) (three-middle-is t r)) (omega arith) (st .pre .0) (st .pre .1 .1)
 
 three-walk-returns-2 : (t : ℕ) → three-walk-lts.Need-returns-2 (three-claims t) (three-walk-at t) three-walk.Post
 three-walk-returns-2 t c =
     let ca = c .before .before in
     let r = ca .before .before .before in
     let st = (three-past1 t (r .before .before .before)) .before .before .before in
-    refused _ _ (read-lawful (now (st .args .flags))) (inside-placed _) (three-1 t (r .before .before .before)) (three-e2 t r) (ca .before .child-walk2 .ensures) (was-refused _ (ca .child-answer2 .ensures) (c .enum-told2 .given .1))
+    refused _ _ (read-lawful (now (st .args .flags))) (inside-placed _) (three-1 t (r .before .before .before)) (same-word (r .before .before .middle-third .ensures) (three-middle-is t r)) (ca .before .child-walk2 .ensures) (was-refused _ (ca .child-answer2 .ensures) (c .enum-told2 .given .1))
 
 three-walk-child-walk-requires-3 : (t : ℕ) → three-walk-lts.Need-child-walk-requires-3 (three-claims t) (three-walk-at t) three-walk.Post
 three-walk-child-walk-requires-3 t c κs =
     let r = c .before in
     let st = (three-past2 t (r .before)) .before .before .before in
-    next-child _ _ (read-lawful (now (st .args .flags))) (inside-placed _) (three-2 t (r .before)) (three-e3 t r) (omega arith) (st .pre .0) (st .pre .1 .1)
+    next-child _ _ (read-lawful (now (st .args .flags))) (inside-placed _) (three-2 t (r .before)) (same-word (r .last-third .ensures) (three-open-is t (three-past2 t (r .before)))) (omega arith) (st .pre .0) (st .pre .1 .1)
 
 three-walk-returns-3 : (t : ℕ) → three-walk-lts.Need-returns-3 (three-claims t) (three-walk-at t) three-walk.Post
 three-walk-returns-3 t c =
     let w = c .before .before .before in
     let r = w .before .before in
-    last _ _ (three-2 t (r .before)) (three-e3 t r) (w .child-walk3 .ensures)
+    last _ _ (three-2 t (r .before)) (same-word (r .last-third .ensures) (three-open-is t (three-past2 t (r .before)))) (w .child-walk3 .ensures)
 
 three-walk-returns-4 : (t : ℕ) → three-walk-lts.Need-returns-4 (three-claims t) (three-walk-at t) three-walk.Post
 three-walk-returns-4 t c =
     let ca = c .before .before .before in
     let w = ca .before in
     let r = w .before .before in
-    ended _ _ (three-2 t (r .before)) (three-e3 t r) (w .child-walk3 .ensures) (was-walked _ (ca .child-answer3 .ensures) (c .before .c3 .given .1))
+    ended _ _ (three-2 t (r .before)) (same-word (r .last-third .ensures) (three-open-is t (three-past2 t (r .before)))) (w .child-walk3 .ensures) (was-walked _ (ca .child-answer3 .ensures) (c .before .c3 .given .1))
 
 -- ---- two_walk: its children, one after the other
 
@@ -522,12 +467,6 @@ two-past1 t k = k .before .before .before .before .before .before
 two-open-is : (t : ℕ) (r : two-walk-lts.After-open-below (two-claims t) (two-walk-at t) two-walk.Post) → r .open-below .result ≡ two-open t (r .before .before .before .before)
 two-open-is t r = let st = r .before .before .before .before in same-open (now (st .args .u)) (st .args .bound) 0 (r .before .before .first-half .ensures) refl (r .open-below .ensures)
 
-two-e1 : (t : ℕ) (r : two-walk-lts.After-open-below (two-claims t) (two-walk-at t) two-walk.Post) → let st = r .before .before .before .before in word (r .before .before .first-half .result) (r .open-below .result) ≡ word (childRow (st .args .row) (Binary (st .args .v)) 0) (two-open t st)
-two-e1 t r = same-word (r .before .before .first-half .ensures) (two-open-is t r)
-
-two-e2 : (t : ℕ) (r : two-walk-lts.After-known-told (two-claims t) (two-walk-at t) two-walk.Post) → let st = (two-past1 t r) .before .before .before .before in word ((two-past1 t r) .before .second-half .result) ((two-past1 t r) .open-below .result) ≡ word (childRow (st .args .row) (Binary (st .args .v)) 1) (two-open t st)
-two-e2 t r = same-word ((two-past1 t r) .before .second-half .ensures) (two-open-is t (two-past1 t r))
-
 two-0 : (t : ℕ) (st : TwoStart t) → TwoSoFar t st 0 (st .args .c) (word (childRow (st .args .row) (Binary (st .args .v)) 0) (two-open t st) ∷ word (childRow (st .args .row) (Binary (st .args .v)) 1) (two-open t st) ∷ []) (now (st .args .rows))
 unfolding innerKids
 two-0 t st = begun _ _ (st .pre .1 .0)
@@ -537,39 +476,39 @@ two-1 t k =
     let ca = k .before .before .before in
     let r = ca .before .before .before in
     let st = r .before .before .before .before in
-    walked _ _ (read-lawful (now (st .args .flags))) (inside-placed _) (two-0 t st) (two-e1 t r) (ca .before .child-walk .ensures) (was-walked _ (ca .child-answer .ensures) (k .before .c1 .given .1))
+    walked _ _ (read-lawful (now (st .args .flags))) (inside-placed _) (two-0 t st) (same-word (r .before .before .first-half .ensures) (two-open-is t r)) (ca .before .child-walk .ensures) (was-walked _ (ca .child-answer .ensures) (k .before .c1 .given .1))
 
 two-walk-child-walk-requires : (t : ℕ) → two-walk-lts.Need-child-walk-requires (two-claims t) (two-walk-at t) two-walk.Post
 two-walk-child-walk-requires t c κs =
     let r = c .before in
     let st = r .before .before .before .before in
-    next-child _ _ (read-lawful (now (st .args .flags))) (inside-placed _) (two-0 t st) (two-e1 t r) (omega arith) (st .pre .0) (st .pre .1 .1)
+    next-child _ _ (read-lawful (now (st .args .flags))) (inside-placed _) (two-0 t st) (same-word (r .before .before .first-half .ensures) (two-open-is t r)) (omega arith) (st .pre .0) (st .pre .1 .1)
 
 two-walk-returns : (t : ℕ) → two-walk-lts.Need-returns (two-claims t) (two-walk-at t) two-walk.Post
 two-walk-returns t c =
     let ca = c .before .before in
     let r = ca .before .before .before in
     let st = r .before .before .before .before in
-    refused _ _ (read-lawful (now (st .args .flags))) (inside-placed _) (two-0 t st) (two-e1 t r) (ca .before .child-walk .ensures) (was-refused _ (ca .child-answer .ensures) (c .enum-told .given .1))
+    refused _ _ (read-lawful (now (st .args .flags))) (inside-placed _) (two-0 t st) (same-word (r .before .before .first-half .ensures) (two-open-is t r)) (ca .before .child-walk .ensures) (was-refused _ (ca .child-answer .ensures) (c .enum-told .given .1))
 
 two-walk-child-walk-requires-2 : (t : ℕ) → two-walk-lts.Need-child-walk-requires-2 (two-claims t) (two-walk-at t) two-walk.Post
 two-walk-child-walk-requires-2 t c κs =
     let r = c .before in
     let st = (two-past1 t r) .before .before .before .before in
-    next-child _ _ (read-lawful (now (st .args .flags))) (inside-placed _) (two-1 t r) (two-e2 t r) (omega arith) (st .pre .0) (st .pre .1 .1)
+    next-child _ _ (read-lawful (now (st .args .flags))) (inside-placed _) (two-1 t r) (same-word ((two-past1 t r) .before .second-half .ensures) (two-open-is t (two-past1 t r))) (omega arith) (st .pre .0) (st .pre .1 .1)
 
 two-walk-returns-2 : (t : ℕ) → two-walk-lts.Need-returns-2 (two-claims t) (two-walk-at t) two-walk.Post
 two-walk-returns-2 t c =
     let w = c .before .before .before in
     let r = w .before .before in
-    last _ _ (two-1 t r) (two-e2 t r) (w .child-walk2 .ensures)
+    last _ _ (two-1 t r) (same-word ((two-past1 t r) .before .second-half .ensures) (two-open-is t (two-past1 t r))) (w .child-walk2 .ensures)
 
 two-walk-returns-3 : (t : ℕ) → two-walk-lts.Need-returns-3 (two-claims t) (two-walk-at t) two-walk.Post
 two-walk-returns-3 t c =
     let ca = c .before .before .before in
     let w = ca .before in
     let r = w .before .before in
-    ended _ _ (two-1 t r) (two-e2 t r) (w .child-walk2 .ensures) (was-walked _ (ca .child-answer2 .ensures) (c .before .c2 .given .1))
+    ended _ _ (two-1 t r) (same-word ((two-past1 t r) .before .second-half .ensures) (two-open-is t (two-past1 t r))) (w .child-walk2 .ensures) (was-walked _ (ca .child-answer2 .ensures) (c .before .c2 .given .1))
 
 pub +child-walk+children-walk+four-walk+node-walk+three-walk+two-walk-spec :
     {M : Type 1} → statement M
