@@ -77,7 +77,7 @@ fn due_after(opened: Opened, due: u64) -> u64
     }
 }
 
-// OpensTo the session of a picture: refusals 1 to 9, or 0. The session is the settings and the due address, which an
+// Opens the session of a picture: refusals 1 to 9, or 0. The session is the settings and the due address, which an
 // accepted opening sets.
 #[no_mangle]
 pub extern "C" fn colwythar_open(settings: &[u32; 8], due: &mut u64, answer: &mut [u64; 2])
