@@ -1,18 +1,39 @@
 // Runs on the proved functions the cases that document 01 gives to a test program, and P4 and P5 both ways.
 // The expected output, `stdout`, is written from the paper. P1 to P10 are theorems (crates/unit/specs/Cases.antt).
 use libc::STDOUT_FILENO;
-use prints::end_line;
-use prints::say;
-use prints::say_flags;
-use prints::say_rows;
-use prints::setting_a;
 use settings::Count;
 use settings::Located;
 use settings::Settings;
 use unit::Answer;
 ghost use mathlib.Core.Path.{_≡_};
-ghost use Prim.Native.Nat.{_≤_, min};
+ghost use Prim.Native.Nat.{_+_, _≤_, _<_, min};
 ghost use Rattle.unit.specs.Cases as Cases;
+ghost use Rattle.unit.specs.Cases.{settingA as Cases·settingA};
+
+// Setting A of document 01, at a width.
+fn setting_a(width: u32) -> Settings
+    ensures { λ r. ⌜ r ≡ Cases·settingA width ⌝ }
+{
+    Settings {
+        ctu: 64,
+        mincb: 4,
+        minqt: 8,
+        maxmtt: 3,
+        maxbt: 32,
+        maxtt: 32,
+        width,
+        height: 64,
+    }
+}
+
+fn say(text: &[u8], n: u64) {
+    io::write_all(STDOUT_FILENO, text);
+    io::print_decimal(STDOUT_FILENO, n);
+}
+
+fn end_line() {
+    io::write_all(STDOUT_FILENO, b"\n");
+}
 
 fn say_refusal(text: &[u8], s: Settings) {
     say(text, settings::refusal(s) as u64);
@@ -67,6 +88,48 @@ fn say_units() {
     end_line();
 }
 
+fn wide(x: u8) -> u64
+    ensures { λ r. ⌜ (r ≡ x) × (r < 256) ⌝ }
+{
+    x as u64
+}
+
+// A number of a row, of 8 bits and of 16.
+fn byte(rows: &[u8; 64], at: usize) -> u64
+    ensures { λ r. ⌜ r < 256 ⌝ }
+{
+    if at < 64 { wide(rows[at]) } else { 0 }
+}
+
+fn two_bytes(rows: &[u8; 64], at: usize) -> u64
+    requires { ⌜ at < 64 ⌝ }
+    ensures { λ r. ⌜ r < 65536 ⌝ }
+{
+    byte(rows, at) + byte(rows, at + 1) * 256
+}
+
+// A row in decimals: X, Y, exponents, depths.
+fn say_row(rows: &[u8; 64], at: usize)
+    requires { ⌜ at + 8 ≤ 64 ⌝ }
+{
+    say(b"  (", two_bytes(rows, at));
+    say(b", ", two_bytes(rows, at + 2));
+    say(b", ", byte(rows, at + 4));
+    say(b", ", byte(rows, at + 5));
+    say(b", ", byte(rows, at + 6));
+    say(b", ", byte(rows, at + 7));
+    io::write_all(STDOUT_FILENO, b")\n");
+}
+
+// The rows that a reading answered: 8 at most.
+fn say_rows(rows: &[u8; 64], count: usize) {
+    for i in 0..8 {
+        if i < count {
+            say_row(rows, i * 8);
+        }
+    }
+}
+
 fn within(room: usize) -> usize
     ensures { λ r. ⌜ (r ≡ min room 64) × (r ≤ 64) ⌝ }
 {
@@ -108,6 +171,15 @@ fn say_back(text: &[u8], s: Settings, address: usize, rows: &[u8], room: usize) 
         }
     }
     end_line();
+}
+
+// So many flags, 64 at most.
+fn say_flags(flags: &[u8; 64], count: usize) {
+    for i in 0..64 {
+        if i < count {
+            say(b" ", byte(flags, i));
+        }
+    }
 }
 
 // A unit inside the picture, and one at its edge.

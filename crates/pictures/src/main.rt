@@ -4,13 +4,32 @@ use libc::STDOUT_FILENO;
 use picture::Called;
 use picture::Opened;
 use picture::Session;
-use prints::end_line;
-use prints::say;
-use prints::say_rows;
-use prints::setting_a;
 use settings::Settings;
 use unit::Answer;
+ghost use mathlib.Core.Path.{_≡_};
 ghost use Prim.Native.Nat.{_<_};
+ghost use Rattle.unit.specs.Cases as Cases;
+
+// Setting A of document 01 with another picture.
+fn setting_a(width: u32, height: u32) -> Settings
+    ensures { λ r. ⌜ r ≡ Cases.settings 64 4 8 3 32 32 width height ⌝ }
+{
+    Settings {
+        ctu: 64,
+        mincb: 4,
+        minqt: 8,
+        maxmtt: 3,
+        maxbt: 32,
+        maxtt: 32,
+        width,
+        height,
+    }
+}
+
+fn say(text: &[u8], n: u64) {
+    io::write_all(STDOUT_FILENO, text);
+    io::print_decimal(STDOUT_FILENO, n);
+}
 
 // An answer: a refusal's number and place, or the number of rows.
 fn say_called(text: &[u8], c: Called) -> Session {
@@ -35,30 +54,43 @@ fn say_unit(t: Session, address: usize, flags: &[u8], rows: &mut [u8; 64]) -> Se
     requires { ⌜ address < 1000 ⌝ }
 {
     let mut few = [0u8; 7];
-    say(b"  unit ", address as u64);
+    say(b"\n  unit ", address as u64);
     let skipped = say_called(b": ", t.unit(address + 1, flags, rows));
     let early = say_called(b", ", skipped.unit(address, b"", rows));
     let short = say_called(b", ", early.unit(address, flags, &mut few));
     let next = say_called(b", ", short.unit(address, flags, rows));
     say(b"; due ", next.due as u64);
-    end_line();
     next
+}
+
+// The bytes of so many rows, 8 at most, a row a line.
+fn say_rows(rows: &[u8; 64], count: usize) {
+    for i in 0..64 {
+        if i / 8 < count {
+            say_byte(rows[i], i % 8 == 0);
+        }
+    }
+}
+
+fn say_byte(byte: u8, first: bool) {
+    if first {
+        say(b"\n    ", byte as u64);
+    } else {
+        say(b" ", byte as u64);
+    }
 }
 
 // A complete picture, and sessions whose fields were forged.
 fn say_end(t: Session, address: usize) {
     let mut rows = [0u8; 64];
-    let end = say_called(b"  complete: ", t.unit(address, b"\x00", &mut rows));
-    end_line();
+    let end = say_called(b"\n  complete: ", t.unit(address, b"\x00", &mut rows));
     let mut past = end;
     past.due = 1000;
-    say_called(b"  1,000 due: ", past.unit(1000, b"\x00", &mut rows));
-    end_line();
+    say_called(b"\n  1,000 due: ", past.unit(1000, b"\x00", &mut rows));
     let mut cut = end;
-    cut.settings = setting_a(68);
+    cut.settings = setting_a(68, 64);
     cut.due = 0;
-    say_called(b"  width 68: ", cut.unit(0, b"\x00", &mut rows));
-    end_line();
+    say_called(b"\n  width 68: ", cut.unit(0, b"\x00", &mut rows));
 }
 
 // A unit of the small picture, and its rows.
@@ -86,7 +118,6 @@ fn say_opened(text: &[u8], s: Settings) -> Session {
     match Session::open(s) {
         Opened::Refused(number) => {
             say(b"refused ", number as u64);
-            end_line();
             Session {
                 settings: s,
                 due: 0,
@@ -94,15 +125,13 @@ fn say_opened(text: &[u8], s: Settings) -> Session {
         }
         Opened::Fresh(t) => {
             say(b"opened, due ", t.due as u64);
-            end_line();
             t
         }
     }
 }
 
 fn main() {
-    say_opened(b"a picture of width 68: ", setting_a(68));
-    let mut small = setting_a(72);
-    small.height = 72;
-    say_small(say_opened(b"a picture of 72 by 72: ", small));
+    say_opened(b"a picture of width 68: ", setting_a(68, 64));
+    say_small(say_opened(b"\na picture of 72 by 72: ", setting_a(72, 72)));
+    io::write_all(STDOUT_FILENO, b"\n");
 }

@@ -1,7 +1,7 @@
 use Prim.Native.Nat.{_-_, _≤_}
 use native.Mathlib.Omega.{arith}
-use Rattle.prints.proofs.say_rows.Statement.{statement}
-use Rattle.prints.proofs.say_rows.Tie as tie
+use Rattle.cases.proofs.say_rows.Statement.{statement}
+use Rattle.cases.proofs.say_rows.Tie as tie
 
 abbrev Inv-loop : tie.InvT-loop
 Inv-loop rows count i₀ i = i ≤ 8

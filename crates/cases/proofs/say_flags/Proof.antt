@@ -1,8 +1,8 @@
 use Prim.Native.Nat.{_-_, _≤_}
 use native.Mathlib.Omega.{arith}
 use borrow.Author.Needs.{needs}
-use Rattle.prints.proofs.say_flags.Statement.{statement}
-use Rattle.prints.proofs.say_flags.Tie as tie
+use Rattle.cases.proofs.say_flags.Statement.{statement}
+use Rattle.cases.proofs.say_flags.Tie as tie
 
 abbrev Inv-loop : tie.InvT-loop
 Inv-loop flags count i₀ t4 i = i ≤ 64
