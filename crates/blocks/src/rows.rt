@@ -8,16 +8,24 @@ ghost use Rattle.sides.specs.Side.{exponent};
 ghost use Rattle.tree.specs.Rows.{rowOf};
 ghost use Rattle.blocks.specs.RowNumbers.{rowWord, wordBytes, Put};
 
-// What 1 in each field of a row is in its number, where X stands lowest: Y,
-pub const ROW_Y: u64 = 65536;
-// the exponent of its width
-pub const ROW_WIDTH: u64 = 4294967296;
-// and of its height,
-pub const ROW_HEIGHT: u64 = 1099511627776;
+// Where the fields of a row stand in its number, by bits: X lowest, then Y,
+pub const X_PLACE: u32 = 0;
+
+pub const Y_PLACE: u32 = 16;
+// the exponents of its width and of its height,
+pub const WIDTH_PLACE: u32 = 32;
+
+pub const HEIGHT_PLACE: u32 = 40;
+// and what 1 in each field is in the number: Y,
+pub const ROW_Y: u64 = 1 << Y_PLACE;
+// the exponents,
+pub const ROW_WIDTH: u64 = 1 << WIDTH_PLACE;
+
+pub const ROW_HEIGHT: u64 = 1 << HEIGHT_PLACE;
 // the QT depth
-pub const ROW_QT: u64 = 281474976710656;
+pub const ROW_QT: u64 = 1 << 48;
 // and the MTT depth.
-pub const ROW_MTT: u64 = 72057594037927936;
+pub const ROW_MTT: u64 = 1 << 56;
 
 // The exponent of a side, which a row stores in a byte.
 fn stored_exponent(side: u32) -> u64

@@ -3,6 +3,7 @@ use crate::fields::height;
 use crate::fields::width;
 use blocks::BINARY_H;
 use blocks::BINARY_V;
+use blocks::HEIGHT_PLACE;
 use blocks::MIDDLE_H;
 use blocks::MIDDLE_V;
 use blocks::ROW_HEIGHT;
@@ -12,6 +13,9 @@ use blocks::ROW_WIDTH;
 use blocks::ROW_Y;
 use blocks::TERNARY_H;
 use blocks::TERNARY_V;
+use blocks::WIDTH_PLACE;
+use blocks::X_PLACE;
+use blocks::Y_PLACE;
 use tree::Decision;
 use tree::Direction;
 ghost use mathlib.Core.Path.{_≡_};
@@ -81,8 +85,8 @@ fn exponent_place(v: Direction) -> u32
     ensures { λ r. ⌜ (r ≡ Splits.pick v 40 32) × (r ≤ 40) ⌝ }
 {
     match v {
-        Direction::Horizontal => 40,
-        Direction::Vertical => 32,
+        Direction::Horizontal => HEIGHT_PLACE,
+        Direction::Vertical => WIDTH_PLACE,
     }
 }
 
@@ -90,8 +94,8 @@ fn corner_place(v: Direction) -> u32
     ensures { λ r. ⌜ (r ≡ Splits.pick v 16 0) × (r ≤ 16) ⌝ }
 {
     match v {
-        Direction::Horizontal => 16,
-        Direction::Vertical => 0,
+        Direction::Horizontal => Y_PLACE,
+        Direction::Vertical => X_PLACE,
     }
 }
 

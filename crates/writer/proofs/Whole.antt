@@ -25,7 +25,7 @@ use Rattle.nodes.specs.State.{givenOf}
 use Rattle.walks.specs.Rooted.{Rooted}
 use Rattle.walks.specs.Walks.{Done}
 use Rattle.back.specs.Walking.{backWay}
-use Rattle.writer.specs.Delivery.{walkEnd, deliverFlags, Kept}
+use Rattle.writer.specs.Delivery.{walkEnd, deliverFlags, InScratch}
 use Rattle.writer.proofs.Delivery.{walk-end}
 
 module _ (l : Limits) (root : Node) (bytes : List ℕ) where
@@ -43,7 +43,7 @@ module _ (l : Limits) (root : Node) (bytes : List ℕ) where
     rows-refused buffer = rw cut-test (record { answers = refl; leaves = refl })
 
   -- the delivery of a test's flags
-  module _ {said : Answer} {scratch : List ℕ} (kept : Kept (testRows (luma l) root bytes) said scratch) (buffer : List ℕ) where
+  module _ {said : Answer} {scratch : List ℕ} (kept : InScratch (testRows (luma l) root bytes) said scratch) (buffer : List ℕ) where
     abbrev tested : Run ℕ (List Row)
     tested = testRows (luma l) root bytes
 
@@ -67,7 +67,7 @@ module _ (l : Limits) (root : Node) (bytes : List ℕ) where
 
 -- what the walk of the root answers is the test's end, and the scratch table has its flags
 pub root-kept : {l : Limits} {root : Node} → Rooted (luma l) root → (bytes : List ℕ) → length bytes % 8 ≡ 0 → {b z : List ℕ} {answer : ℕ} → Done (backWay bytes) (backNode (luma l) root (rowsIn bytes)) 0 b answer z
-    → {said : Answer} → said ≡ walkEnd answer bytes → Kept (testRows (luma l) root bytes) said z
+    → {said : Answer} → said ≡ walkEnd answer bytes → InScratch (testRows (luma l) root bytes) said z
 unfolding testRows flagsFrom
 root-kept {l} {root} r bytes whole {b} {z} done e =
     let run = backNode (luma l) root (rowsIn bytes) in

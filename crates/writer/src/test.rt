@@ -16,7 +16,7 @@ ghost use Rattle.tree.specs.Splits.{rightsOf, openSplits};
 ghost use Rattle.unit.specs.Answers.{answerOf};
 ghost use Rattle.unit.specs.Writer.{testRows, testUnit};
 ghost use Rattle.walks.specs.Rooted.{Rooted};
-ghost use Rattle.writer.specs.Delivery.{leafAlone, leafFlags, walkEnd, Kept};
+ghost use Rattle.writer.specs.Delivery.{leafAlone, leafFlags, walkEnd, InScratch};
 
 // Whether the only row is the root's own, and the root lies inside the picture: then it is a leaf.
 pub(crate) fn is_leaf(l: Limits, root: Node, rows: &[u8]) -> bool
@@ -68,7 +68,7 @@ fn walk_end(answer: u64, rows: &[u8]) -> Answer
 // The test of whole rows by a walk: 16, or the number of their flags, which the scratch table then begins with.
 pub(crate) fn test_all(l: Limits, root: Node, rows: &[u8], scratch: &mut Scratch) -> Answer
     requires { ⌜ Rooted (luma l) root × (length (now rows) % 8 ≡ 0) × (length (now scratch) ≡ 4096) ⌝ }
-    ensures { λ r. ⌜ Kept (testRows (luma l) root (now (rows .entry))) r (now (scratch .exit)) ⌝ }
+    ensures { λ r. ⌜ InScratch (testRows (luma l) root (now (rows .entry))) r (now (scratch .exit)) ⌝ }
 {
     let u = nodes::luma_table(l);
     let splits = splits::open_splits(l, root);
