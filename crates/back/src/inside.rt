@@ -10,8 +10,10 @@ use marks::word_at;
 use nodes::Child;
 use nodes::Table;
 use nodes::child_answer;
+use tree::CUTS;
 use tree::Decision;
 use tree::Direction;
+use tree::QT;
 ghost use mathlib.Core.Path.{_≡_};
 ghost use mathlib.Core.Bool.{false};
 ghost use mathlib.Core.List.{[], _∷_};
@@ -136,7 +138,7 @@ pub(crate) fn four_back(
     ensures { λ r. ⌜ Walked (backWay (now (rows .entry))) (Inside bound) (now (u .entry)) c (innerKids (now (u .entry)) row bound Quad) (now (flags .entry)) r (now (flags .exit)) ⌝ }
 {
     let row0 = nodes::child_row(row, Decision::Quad, 0);
-    let m = nodes::open_below(u, row0, bound, 30, 1);
+    let m = nodes::open_below(u, row0, bound, CUTS, QT);
     let first = child_back(u, rows, flags, marks, c, row0, bound, m);
     let Child::Walked(c1) = child_answer(first) else {
         return first;
@@ -175,7 +177,7 @@ pub(crate) fn two_back(
 {
     let row0 = nodes::first_half(row, v);
     let row1 = nodes::second_half(row, v);
-    let m = nodes::open_below(u, row0, bound, 30, 0);
+    let m = nodes::open_below(u, row0, bound, CUTS, 0);
     let first = child_back(u, rows, flags, marks, c, row0, bound, m);
     let Child::Walked(c1) = child_answer(first) else {
         return first;
@@ -202,7 +204,7 @@ pub(crate) fn three_back(
     ensures { λ r. ⌜ Walked (backWay (now (rows .entry))) (Inside bound) (now (u .entry)) c (innerKids (now (u .entry)) row bound (Ternary v)) (now (flags .entry)) r (now (flags .exit)) ⌝ }
 {
     let row0 = nodes::first_third(row, v);
-    let m = nodes::open_below(u, row0, bound, 30, 0);
+    let m = nodes::open_below(u, row0, bound, CUTS, 0);
     let first = child_back(u, rows, flags, marks, c, row0, bound, m);
     let Child::Walked(c1) = child_answer(first) else {
         return first;

@@ -5,12 +5,19 @@ use crate::masks::DEPTH_BOUND;
 use crate::masks::Table;
 use crate::open::inner_splits;
 use blocks::ROW_MTT;
+use tree::BH;
+use tree::BV;
+use tree::CUTS;
 use tree::Direction;
+use tree::QT;
 ghost use mathlib.Core.Path.{_≡_};
 ghost use lib.Dec.{ltb};
 ghost use Prim.Native.Nat.{_≤_, _<_};
 ghost use Rattle.nodes.specs.Tables.{limitsIn};
 ghost use Rattle.nodes.specs.RowNodes.{boundIn, openBelow, cutsOf, depthAbove, depthBelow};
+
+// What 1 of the offset F is in what the depths leave to a node that may be out, above the masks of the five splits.
+const OFFSET: u32 = 64;
 
 // M, the bound of the MTT depth.
 fn depth_bound(u: &Table) -> u32
@@ -31,7 +38,7 @@ pub fn may_cut(u: &Table) -> bool
 pub fn bound(u: &Table, depths: u32) -> u64
     ensures { λ r. ⌜ r ≡ boundIn (now (u .entry)) depths ⌝ }
 {
-    let depth = (depth_bound(u) as u64) + ((depths / 64) as u64);
+    let depth = (depth_bound(u) as u64) + ((depths / OFFSET) as u64);
     if depth < 255 {
         depth * ROW_MTT
     } else {
@@ -53,8 +60,8 @@ pub fn middle_cuts(v: Direction) -> u32
     ensures { λ r. ⌜ (r ≡ cutsOf v 1) × (r < 32) ⌝ }
 {
     match v {
-        Direction::Horizontal => 28,
-        Direction::Vertical => 26,
+        Direction::Horizontal => CUTS - BH,
+        Direction::Vertical => CUTS - BV,
     }
 }
 
@@ -62,7 +69,7 @@ pub fn middle_cuts(v: Direction) -> u32
 pub fn depth_above(u: &Table) -> u32
     ensures { λ r. ⌜ r ≡ depthAbove (now (u .entry)) ⌝ }
 {
-    splits::bit(0 < depth_bound(u), 30) + 1
+    splits::bit(0 < depth_bound(u), CUTS) + QT
 }
 
 // What they leave to a part of a binary cut at the edge of the picture, which adds 1 to F: the cuts where its depth is
@@ -70,7 +77,7 @@ pub fn depth_above(u: &Table) -> u32
 pub fn depth_below(u: &Table, row: u64, depths: u32) -> u32
     ensures { λ r. ⌜ r ≡ depthBelow (now (u .entry)) row depths ⌝ }
 {
-    let offset = depths / 64 + 1;
+    let offset = depths / OFFSET + 1;
     let deep = ((mtt_depth(row) + 1) as u64) < (depth_bound(u) as u64) + (offset as u64);
-    offset % 1024 * 64 + splits::bit(deep, 30)
+    offset % 1024 * OFFSET + splits::bit(deep, CUTS)
 }

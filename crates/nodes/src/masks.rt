@@ -1,6 +1,7 @@
 // What the walks of one tree are given: the limits of its kind, and the splits that each side, and the area, let open.
 use tree::BH;
 use tree::BV;
+use tree::CUTS;
 use tree::Direction;
 use tree::Limits;
 use tree::QT;
@@ -83,7 +84,7 @@ fn side_mask(l: Limits, e: Direction, s: u32) -> u32
 }
 
 // Every split is open.
-const ALL: u32 = 31;
+const ALL: u32 = QT + CUTS;
 
 // The table of the luma tree with these limits: it closes nothing by the area.
 pub fn luma_table(l: Limits) -> Table

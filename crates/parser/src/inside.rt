@@ -4,9 +4,11 @@ use crate::scratch::Scratch;
 use nodes::Child;
 use nodes::Table;
 use nodes::child_answer;
+use tree::CUTS;
 use tree::Choice;
 use tree::Decision;
 use tree::Direction;
+use tree::QT;
 ghost use mathlib.Core.Path.{_≡_};
 ghost use mathlib.Core.Bool.{false};
 ghost use mathlib.Core.List.{[], _∷_};
@@ -127,7 +129,7 @@ pub(crate) fn four_walk(
     ensures { λ r. ⌜ Walked (readWay (now (flags .entry))) (Inside bound) (now (u .entry)) c (innerKids (now (u .entry)) row bound Quad) (now (rows .entry)) r (now (rows .exit)) ⌝ }
 {
     let row0 = nodes::child_row(row, Decision::Quad, 0);
-    let m = nodes::open_below(u, row0, bound, 30, 1);
+    let m = nodes::open_below(u, row0, bound, CUTS, QT);
     let first = child_walk(u, flags, rows, c, row0, bound, m);
     let Child::Walked(c1) = child_answer(first) else {
         return first;
@@ -165,7 +167,7 @@ pub(crate) fn two_walk(
 {
     let row0 = nodes::first_half(row, v);
     let row1 = nodes::second_half(row, v);
-    let m = nodes::open_below(u, row0, bound, 30, 0);
+    let m = nodes::open_below(u, row0, bound, CUTS, 0);
     let first = child_walk(u, flags, rows, c, row0, bound, m);
     let Child::Walked(c1) = child_answer(first) else {
         return first;
@@ -191,7 +193,7 @@ pub(crate) fn three_walk(
     ensures { λ r. ⌜ Walked (readWay (now (flags .entry))) (Inside bound) (now (u .entry)) c (innerKids (now (u .entry)) row bound (Ternary v)) (now (rows .entry)) r (now (rows .exit)) ⌝ }
 {
     let row0 = nodes::first_third(row, v);
-    let m = nodes::open_below(u, row0, bound, 30, 0);
+    let m = nodes::open_below(u, row0, bound, CUTS, 0);
     let first = child_walk(u, flags, rows, c, row0, bound, m);
     let Child::Walked(c1) = child_answer(first) else {
         return first;

@@ -79,3 +79,6 @@ pub const BV: u32 = 4;
 pub const TH: u32 = 8;
 
 pub const TV: u32 = 16;
+
+// All cuts.
+pub const CUTS: u32 = BH + BV + TH + TV;
