@@ -16,7 +16,7 @@ use Rattle.tree.specs.Kind.{Kind}
 use Rattle.tree.specs.Splits.{has, isSplit, rightOut, bottomOut, isOut, Rights, rightsOf, rightsIn, allows}
 use Rattle.tree.specs.Flags.{flagsFor}
 use Rattle.tree.specs.Children.{cornerInside}
-use Rattle.laws.specs.Areas.{areasOf, spareOf}
+use Rattle.laws.specs.Areas.{areasOf, flagRoom}
 use Rattle.laws.proofs.Areas.{least-area}
 use Rattle.laws.proofs.Counts.{flags-four}
 use Rattle.nodes.specs.State.{refusal, placeOf, givenOf}
@@ -48,8 +48,8 @@ as-stored bytes {c} {b} {fs} {z} p = record { long = p .long; first = ap (λ (i 
 
 module _ {bytes : List ℕ} {stands : Kind → Node → Word → Type 0} {u : List ℕ} {c : ℕ} {w : Word} (placed : (k : Kind) (n : Node) (v : Word) → stands k n v → Placed (k .limits) n) (asked : Asked (backWay bytes) stands u c (w ∷ [])) where
   -- the state is at the first byte of a row, and there is room for the flags of the node
-  pub in-room : (placeOf c % 8 ≡ 0) × (placeOf c ≤ 8192) × (givenOf c + 4 ≤ 4096)
-  unfolding areasOf spareOf
+  pub in-room : (placeOf c % 8 ≡ 0) × (placeOf c ≤ 8192) × (givenOf c + 4 ≤ 2048)
+  unfolding areasOf flagRoom
   in-room = some-case (backWay bytes) stands u c w asked (λ k n rows at.
       let a = least-area (placed k n w (at .stands-for) .good .shape) in
       let q = at .room .forRows in
@@ -71,7 +71,7 @@ module _ {bytes : List ℕ} {stands : Kind → Node → Word → Type 0} {u : Li
 -- ---- nodes inside the picture
 
 module _ {bytes u marks : List ℕ} {c row bound splits at : ℕ} (asked : Asked (backWay bytes) (Inside bound) u c (word row splits ∷ [])) (read : Read u bytes marks) (place : at ≡ placeOf c) where
-  room : (placeOf c % 8 ≡ 0) × (placeOf c ≤ 8192) × (givenOf c + 4 ≤ 4096)
+  room : (placeOf c % 8 ≡ 0) × (placeOf c ≤ 8192) × (givenOf c + 4 ≤ 2048)
   room = in-room (λ k n v s. s .placed) asked
 
   pub at-row : (length bytes % 8 ≡ 0) × (at % 8 ≡ 0)
@@ -83,7 +83,7 @@ module _ {bytes u marks : List ℕ} {c row bound splits at : ℕ} (asked : Asked
   few-splits : splits < 32
   few-splits = some-case (backWay bytes) (Inside bound) u c (word row splits) asked (λ k n rows at. let s = splits-small (rightsOf k n) in let e = at .stands-for .splits in omega arith)
 
-  pub leaf-room : {len : ℕ} → len ≡ 4096 → (givenOf c < 4096) × (placeOf c ≤ 8192) × (len ≡ 4096) × (splits < 32)
+  pub leaf-room : {len : ℕ} → len ≡ 2048 → (givenOf c < 2048) × (placeOf c ≤ 8192) × (len ≡ 2048) × (splits < 32)
   leaf-room l = let r = room .2 in (omega arith, room .1, l, few-splits)
 
   module _ {same : Bool} (tests : Same bytes at row same) where

@@ -17,7 +17,6 @@ use Rattle.tree.specs.Rows.{Row, rowAt}
 use Rattle.tree.specs.Run.{before}
 use Rattle.tree.specs.Back.{decisionFrom, backNode}
 use Rattle.laws.proofs.BackSteps.{back-none, back-closed, back-leaf, back-split}
-use Rattle.laws.proofs.Counts.{flags-four}
 use Rattle.nodes.specs.State.{refusal, placeOf, givenOf}
 use Rattle.walks.specs.Stands.{Word, Placed}
 use Rattle.walks.specs.Walks.{walkOver, Done, Walked}
@@ -104,7 +103,7 @@ module _ (bytes : List ℕ) (stands : Kind → Node → Word → Type 0) (u : Li
         pub turned : placeOf m ≡ placeOf c → isSplit d ≡ true → (k : Kind) (n : Node) (rows : List Row) → At k n rows → Turn (backWay bytes) c d b m mid k n rows
         turned place split k n rows at =
             let s = sees .seen at in
-            let four = flags-four rights d in
+            let long = ap (λ r. length (flagsFor r d)) (sees .rights-of at) in
             record {
               here = s .here;
               ok = allowed at;

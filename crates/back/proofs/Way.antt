@@ -8,9 +8,8 @@ use Rattle.tree.specs.declared.Node.{Node}
 use Rattle.tree.specs.Kind.{Kind}
 use Rattle.tree.specs.Rows.{Row}
 use Rattle.tree.specs.Run.{overAll}
-use Rattle.laws.specs.Areas.{areasOf, spareOf, cellsOfAll}
+use Rattle.laws.specs.Areas.{areasOf, flagRoom, cellsOfAll}
 use Rattle.laws.specs.Proper.{Proper}
-use Rattle.laws.proofs.Areas.{least-area}
 use Rattle.laws.proofs.BackBounds.{Taken, BackBound, back-bound}
 use Rattle.laws.proofs.Tables.{rows-long}
 use Rattle.walks.specs.Stands.{Placed}
@@ -44,11 +43,11 @@ one-bound : (bytes : List ℕ) {k : Kind} → Proper k → {n : Node} → Placed
 unfolding overAll
 one-bound bytes {k} v {n} s rows =
     here-or-gone (backWay bytes) k n rows (λ r. BackBound n rows r) (λ here. back-bound v (s .good) (s .sum) rows)
-    (let a = least-area (s .good .shape) in record { flags = omega arith; rest = λ left h. (0, cc, omega arith, omega arith) })
+    (record { flags = omega arith; rest = λ left h. (0, cc, omega arith, omega arith) })
 
 one-step : (bytes : List ℕ) (k : Kind) (n : Node) → Proper k → Placed (k .limits) n → (ns : List Node) (p count : ℕ) (rows : List Row) → Left bytes p rows
     → RoomAt (backWay bytes) p count (n ∷ ns) → Step (backWay bytes) ns count (walkOver (backWay bytes) k (n ∷ []) rows)
-unfolding areasOf spareOf
+unfolding areasOf flagRoom
 one-step bytes k n v s ns p count rows at room =
     let b = one-bound bytes v s rows in
     let f = b .flags in

@@ -34,7 +34,7 @@ pub(crate) fn child_back(
     row: u64,
     depths: u32,
 ) -> u64
-    requires { ⌜ Asked (backWay (now rows)) Outer (now u) c (word row depths ∷ []) × Read (now u) (now rows) (now marks) × (length (now flags) ≡ 4096) ⌝ }
+    requires { ⌜ Asked (backWay (now rows)) Outer (now u) c (word row depths ∷ []) × Read (now u) (now rows) (now marks) × (length (now flags) ≡ 2048) ⌝ }
     ensures { λ r. ⌜ Walked (backWay (now (rows .entry))) Outer (now (u .entry)) c (word row depths ∷ []) (now (flags .entry)) r (now (flags .exit)) ⌝ }
 {
     if !nodes::begins_inside(u, row) {
@@ -68,7 +68,7 @@ pub(crate) fn node_back(
     row: u64,
     depths: u32,
 ) -> u64
-    requires { ⌜ Asked (backWay (now rows)) Outer (now u) c (word row depths ∷ []) × Read (now u) (now rows) (now marks) × (length (now flags) ≡ 4096) × (cornerInside (limitsIn (now u)) (nodeIn row) ≡ true) × (isOut (limitsIn (now u)) (nodeIn row) ≡ true) ⌝ }
+    requires { ⌜ Asked (backWay (now rows)) Outer (now u) c (word row depths ∷ []) × Read (now u) (now rows) (now marks) × (length (now flags) ≡ 2048) × (cornerInside (limitsIn (now u)) (nodeIn row) ≡ true) × (isOut (limitsIn (now u)) (nodeIn row) ≡ true) ⌝ }
     ensures { λ r. ⌜ Walked (backWay (now (rows .entry))) Outer (now (u .entry)) c (word row depths ∷ []) (now (flags .entry)) r (now (flags .exit)) ⌝ }
 {
     let bottom = nodes::bottom_out_at(u, row);
@@ -107,7 +107,7 @@ pub(crate) fn children_back(
     depths: u32,
     d: Decision,
 ) -> u64
-    requires { ⌜ Asked (backWay (now rows)) Outer (now u) c (outerKids (now u) row depths d) × Read (now u) (now rows) (now marks) × (length (now flags) ≡ 4096) ⌝ }
+    requires { ⌜ Asked (backWay (now rows)) Outer (now u) c (outerKids (now u) row depths d) × Read (now u) (now rows) (now marks) × (length (now flags) ≡ 2048) ⌝ }
     ensures { λ r. ⌜ Walked (backWay (now (rows .entry))) Outer (now (u .entry)) c (outerKids (now (u .entry)) row depths d) (now (flags .entry)) r (now (flags .exit)) ⌝ }
 {
     match d {
@@ -136,7 +136,7 @@ pub(crate) fn four_back(
     row: u64,
     depths: u32,
 ) -> u64
-    requires { ⌜ Asked (backWay (now rows)) Outer (now u) c (fourWords row depths) × Read (now u) (now rows) (now marks) × (length (now flags) ≡ 4096) ⌝ }
+    requires { ⌜ Asked (backWay (now rows)) Outer (now u) c (fourWords row depths) × Read (now u) (now rows) (now marks) × (length (now flags) ≡ 2048) ⌝ }
     ensures { λ r. ⌜ Walked (backWay (now (rows .entry))) Outer (now (u .entry)) c (fourWords row depths) (now (flags .entry)) r (now (flags .exit)) ⌝ }
 {
     let row0 = nodes::child_row(row, Decision::Quad, 0);
@@ -173,7 +173,7 @@ pub(crate) fn pair_back(
     row1: u64,
     depths: u32,
 ) -> u64
-    requires { ⌜ Asked (backWay (now rows)) Outer (now u) c (word row0 depths ∷ word row1 depths ∷ []) × Read (now u) (now rows) (now marks) × (length (now flags) ≡ 4096) ⌝ }
+    requires { ⌜ Asked (backWay (now rows)) Outer (now u) c (word row0 depths ∷ word row1 depths ∷ []) × Read (now u) (now rows) (now marks) × (length (now flags) ≡ 2048) ⌝ }
     ensures { λ r. ⌜ Walked (backWay (now (rows .entry))) Outer (now (u .entry)) c (word row0 depths ∷ word row1 depths ∷ []) (now (flags .entry)) r (now (flags .exit)) ⌝ }
 {
     let first = child_back(u, rows, flags, marks, c, row0, depths);

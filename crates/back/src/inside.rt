@@ -32,7 +32,7 @@ ghost use Rattle.back.specs.Walking.{backWay, ownNext};
 
 // A leaf: its split flag, where some split is open, and on to the next row.
 pub(crate) fn leaf(flags: &mut Scratch, c: u64, splits: u32) -> u64
-    requires { ⌜ (givenOf c < 4096) × (placeOf c ≤ 8192) × (length (now flags) ≡ 4096) × (splits < 32) ⌝ }
+    requires { ⌜ (givenOf c < 2048) × (placeOf c ≤ 8192) × (length (now flags) ≡ 2048) × (splits < 32) ⌝ }
     ensures { λ r. ⌜ Follows (now (flags .entry)) (givenOf c) (flagsFor (rightsIn false splits) Leaf) (now (flags .exit)) (givenOf r) × (placeOf r ≡ placeOf c + 8) ⌝ }
 {
     if splits == 0 {
@@ -53,7 +53,7 @@ pub(crate) fn child_back(
     bound: u64,
     splits: u32,
 ) -> u64
-    requires { ⌜ Asked (backWay (now rows)) (Inside bound) (now u) c (word row splits ∷ []) × Read (now u) (now rows) (now marks) × (length (now flags) ≡ 4096) ⌝ }
+    requires { ⌜ Asked (backWay (now rows)) (Inside bound) (now u) c (word row splits ∷ []) × Read (now u) (now rows) (now marks) × (length (now flags) ≡ 2048) ⌝ }
     ensures { λ r. ⌜ Walked (backWay (now (rows .entry))) (Inside bound) (now (u .entry)) c (word row splits ∷ []) (now (flags .entry)) r (now (flags .exit)) ⌝ }
 {
     let next = rows;
@@ -76,7 +76,7 @@ pub(crate) fn node_back(
     bound: u64,
     splits: u32,
 ) -> u64
-    requires { ⌜ Asked (backWay (now rows)) (Inside bound) (now u) c (word row splits ∷ []) × Read (now u) (now rows) (now marks) × (length (now flags) ≡ 4096) × (ownNext (now rows) c row ≡ false) ⌝ }
+    requires { ⌜ Asked (backWay (now rows)) (Inside bound) (now u) c (word row splits ∷ []) × Read (now u) (now rows) (now marks) × (length (now flags) ≡ 2048) × (ownNext (now rows) c row ≡ false) ⌝ }
     ensures { λ r. ⌜ Walked (backWay (now (rows .entry))) (Inside bound) (now (u .entry)) c (word row splits ∷ []) (now (flags .entry)) r (now (flags .exit)) ⌝ }
 {
     let at = nodes::place(c);
@@ -113,7 +113,7 @@ pub(crate) fn children_back(
     bound: u64,
     d: Decision,
 ) -> u64
-    requires { ⌜ Asked (backWay (now rows)) (Inside bound) (now u) c (innerKids (now u) row bound d) × Read (now u) (now rows) (now marks) × (length (now flags) ≡ 4096) ⌝ }
+    requires { ⌜ Asked (backWay (now rows)) (Inside bound) (now u) c (innerKids (now u) row bound d) × Read (now u) (now rows) (now marks) × (length (now flags) ≡ 2048) ⌝ }
     ensures { λ r. ⌜ Walked (backWay (now (rows .entry))) (Inside bound) (now (u .entry)) c (innerKids (now (u .entry)) row bound d) (now (flags .entry)) r (now (flags .exit)) ⌝ }
 {
     match d {
@@ -134,7 +134,7 @@ pub(crate) fn four_back(
     row: u64,
     bound: u64,
 ) -> u64
-    requires { ⌜ Asked (backWay (now rows)) (Inside bound) (now u) c (innerKids (now u) row bound Quad) × Read (now u) (now rows) (now marks) × (length (now flags) ≡ 4096) ⌝ }
+    requires { ⌜ Asked (backWay (now rows)) (Inside bound) (now u) c (innerKids (now u) row bound Quad) × Read (now u) (now rows) (now marks) × (length (now flags) ≡ 2048) ⌝ }
     ensures { λ r. ⌜ Walked (backWay (now (rows .entry))) (Inside bound) (now (u .entry)) c (innerKids (now (u .entry)) row bound Quad) (now (flags .entry)) r (now (flags .exit)) ⌝ }
 {
     let row0 = nodes::child_row(row, Decision::Quad, 0);
@@ -172,7 +172,7 @@ pub(crate) fn two_back(
     v: Direction,
     bound: u64,
 ) -> u64
-    requires { ⌜ Asked (backWay (now rows)) (Inside bound) (now u) c (innerKids (now u) row bound (Binary v)) × Read (now u) (now rows) (now marks) × (length (now flags) ≡ 4096) ⌝ }
+    requires { ⌜ Asked (backWay (now rows)) (Inside bound) (now u) c (innerKids (now u) row bound (Binary v)) × Read (now u) (now rows) (now marks) × (length (now flags) ≡ 2048) ⌝ }
     ensures { λ r. ⌜ Walked (backWay (now (rows .entry))) (Inside bound) (now (u .entry)) c (innerKids (now (u .entry)) row bound (Binary v)) (now (flags .entry)) r (now (flags .exit)) ⌝ }
 {
     let row0 = nodes::first_half(row, v);
@@ -200,7 +200,7 @@ pub(crate) fn three_back(
     v: Direction,
     bound: u64,
 ) -> u64
-    requires { ⌜ Asked (backWay (now rows)) (Inside bound) (now u) c (innerKids (now u) row bound (Ternary v)) × Read (now u) (now rows) (now marks) × (length (now flags) ≡ 4096) ⌝ }
+    requires { ⌜ Asked (backWay (now rows)) (Inside bound) (now u) c (innerKids (now u) row bound (Ternary v)) × Read (now u) (now rows) (now marks) × (length (now flags) ≡ 2048) ⌝ }
     ensures { λ r. ⌜ Walked (backWay (now (rows .entry))) (Inside bound) (now (u .entry)) c (innerKids (now (u .entry)) row bound (Ternary v)) (now (flags .entry)) r (now (flags .exit)) ⌝ }
 {
     let row0 = nodes::first_third(row, v);

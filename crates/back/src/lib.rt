@@ -33,7 +33,7 @@ fn root_back(
     out: bool,
     splits: u32,
 ) -> u64
-    requires { ⌜ SomeRoot (now u) row out splits × Starts (now rows) c row × Read (now u) (now rows) (now marks) × (length (now flags) ≡ 4096) ⌝ }
+    requires { ⌜ SomeRoot (now u) row out splits × Starts (now rows) c row × Read (now u) (now rows) (now marks) × (length (now flags) ≡ 2048) ⌝ }
     ensures { λ r. ⌜ ((k : Kind) (root : Nodes.Node) → Given k root (now (u .entry)) row out splits → Done (backWay (now (rows .entry))) (backNode k root (rowsLeft (now (rows .entry)) (placeOf c / 8))) c (now (flags .entry)) r (now (flags .exit))) ⌝ }
 {
     if out {
@@ -57,7 +57,7 @@ pub fn tree_back(
     out: bool,
     splits: u32,
 ) -> u64
-    requires { ⌜ SomeRoot (now u) row out splits × (length (now rows) % 8 ≡ 0) × (length (now flags) ≡ 4096) ⌝ }
+    requires { ⌜ SomeRoot (now u) row out splits × (length (now rows) % 8 ≡ 0) × (length (now flags) ≡ 2048) ⌝ }
     ensures { λ r. ⌜ ((k : Kind) (root : Nodes.Node) → Given k root (now (u .entry)) row out splits → Done (backWay (now (rows .entry))) (backNode k root (rowsIn (now (rows .entry)))) 0 (now (flags .entry)) r (now (flags .exit))) ⌝ }
 {
     let mut marks = [4294967295u32; 2048];

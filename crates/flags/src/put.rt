@@ -40,11 +40,11 @@ pub fn allowed(out: bool, splits: u32, d: Decision) -> bool
 }
 
 // A scratch table of flags: room for all that a way back may put, also one that is refused.
-pub type Scratch = [u8; 4096];
+pub type Scratch = [u8; 2048];
 
 // One flag, where it is present; answers how many flags there are then.
 fn put(flags: &mut Scratch, n: usize, there: bool, value: bool) -> usize
-    requires { ⌜ (n < 4096) × (length (now flags) ≡ 4096) ⌝ }
+    requires { ⌜ (n < 2048) × (length (now flags) ≡ 2048) ⌝ }
     ensures { λ r. ⌜ Follows (now (flags .entry)) n (flagByte there value) (now (flags .exit)) r × (r ≤ n + 1) ⌝ }
 {
     flags[n] = value as u8;
@@ -87,7 +87,7 @@ fn put_cut(
     other: u32,
     binary: bool,
 ) -> usize
-    requires { ⌜ (n + 3 ≤ 4096) × (length (now flags) ≡ 4096) ⌝ }
+    requires { ⌜ (n + 3 ≤ 2048) × (length (now flags) ≡ 2048) ⌝ }
     ensures { λ r. ⌜ Follows (now (flags .entry)) n (flagByte (has splits 1) false ++ (flagByte (has splits (pick v 20 10)) (pick v false true) ++ flagByte (has splits other) binary)) (now (flags .exit)) r ⌝ }
 {
     let quad_end = put(flags, n, splits & QT != 0, false);
@@ -97,7 +97,7 @@ fn put_cut(
 
 // The flags of an open split of a node inside the picture.
 pub fn put_split(flags: &mut Scratch, n: usize, splits: u32, d: Decision) -> usize
-    requires { ⌜ (n + 4 ≤ 4096) × (length (now flags) ≡ 4096) × (isSplit d ≡ true) × (allows (rightsIn false splits) d ≡ true) ⌝ }
+    requires { ⌜ (n + 4 ≤ 2048) × (length (now flags) ≡ 2048) × (isSplit d ≡ true) × (allows (rightsIn false splits) d ≡ true) ⌝ }
     ensures { λ r. ⌜ Follows (now (flags .entry)) n (flagsFor (rightsIn false splits) d) (now (flags .exit)) r ⌝ }
 {
     flags[n] = 1;
@@ -122,7 +122,7 @@ fn is_quad(d: Decision) -> bool
 
 // The flags of an open split of a node that is out: no ternary cut is open, and not both binary ones.
 pub fn put_out(flags: &mut Scratch, n: usize, splits: u32, d: Decision) -> usize
-    requires { ⌜ (n + 4 ≤ 4096) × (length (now flags) ≡ 4096) × (allows (rightsIn true splits) d ≡ true) × (has splits 8 ≡ false) × (has splits 16 ≡ false) × ((has splits 2 && has splits 4) ≡ false) ⌝ }
+    requires { ⌜ (n + 4 ≤ 2048) × (length (now flags) ≡ 2048) × (allows (rightsIn true splits) d ≡ true) × (has splits 8 ≡ false) × (has splits 16 ≡ false) × ((has splits 2 && has splits 4) ≡ false) ⌝ }
     ensures { λ r. ⌜ Follows (now (flags .entry)) n (flagsFor (rightsIn true splits) d) (now (flags .exit)) r ⌝ }
 {
     put(

@@ -19,15 +19,15 @@ use Rattle.tree.specs.Reading.{levelsLeft}
 use Rattle.tree.specs.Back.{decisionFrom, noFlags, backSplit, backInto, backWith, back, backNode}
 use Rattle.laws.specs.Every.{Every, every-none, every-more}
 use Rattle.laws.specs.Proper.{Proper}
-use Rattle.laws.specs.Areas.{areasOf, spareOf, cellsOfAll}
+use Rattle.laws.specs.Areas.{areasOf, roomOf, flagRoom, cellsOfAll}
 use Rattle.laws.specs.Good.{Good}
 use Rattle.laws.proofs.Tests.{never}
 use Rattle.laws.proofs.Every.{every-map}
 use Rattle.laws.proofs.Runs.{gives, over-here, over-gone}
 use Rattle.laws.proofs.Edge.{good-kids}
 use Rattle.tree.specs.Splits.{isSplit}
-use Rattle.laws.proofs.Areas.{least-area, kids-areas, kids-spare, leaf-spare}
-use Rattle.laws.proofs.Counts.{flags-four}
+use Rattle.laws.proofs.Areas.{kids-areas}
+use Rattle.laws.proofs.FlagAreas.{decision-room}
 use Rattle.laws.proofs.Starts.{cells-append, cells-least, leaf-area}
 use Rattle.laws.proofs.Decisions.{leaf-own}
 use Rattle.laws.proofs.Backs.{with-open, with-closed}
@@ -38,14 +38,14 @@ use Rattle.laws.proofs.Backs.{with-open, with-closed}
 abbrev pub Taken : ℕ → List Row → List Row → Type 0
 Taken area rows left = (k : ℕ) × (left ≡ drop k rows) × (k ≤ length rows) × (16 * cellsOfAll (take k rows) ≤ area)
 
--- of a node: at most a flag for every 4 samples, less 4
+-- of a node: as many flags as it has room for
 pub record BackBound (n : Node) (rows : List Row) (run : Run ℕ (List Row)) : Type 0 where
-  pub flags : 4 * length (run .given) + 16 ≤ n .w * n .h
+  pub flags : 64 * length (run .given) ≤ roomOf n
   pub rest : (left : List Row) → run .end ≡ goes left → Taken (n .w * n .h) rows left
 
 -- of nodes, one after the other
 pub record BackBounds (ns : List Node) (rows : List Row) (run : Run ℕ (List Row)) : Type 0 where
-  pub flags : 4 * length (run .given) ≤ spareOf ns
+  pub flags : 64 * length (run .given) ≤ flagRoom ns
   pub rest : (left : List Row) → run .end ≡ goes left → Taken (areasOf ns) rows left
 
 -- rows that are taken after others
@@ -71,7 +71,7 @@ taken-rows {rows = rows} t = let c = cells-least (take (t .0) rows) in let e = l
 module _ (k : Kind) (go : Node → List Row → Run ℕ (List Row)) where
   join-bounds : (n : Node) (ns : List Node) (rows : List Row) (given : List ℕ) (end : End (List Row)) → BackBound n rows (record { given = given; end = end })
       → ((mid : List Row) → BackBounds ns mid (overAll (k .limits) go ns mid)) → BackBounds (n ∷ ns) rows (goOn given end (λ t. overAll (k .limits) go ns t))
-  unfolding goOn before areasOf spareOf
+  unfolding goOn before areasOf flagRoom
   join-bounds n ns rows given (goes mid) b more =
       let c = b .flags in
       let d = more mid .flags in
@@ -83,7 +83,7 @@ module _ (k : Kind) (go : Node → List Row → Run ℕ (List Row)) where
 
   -- nodes that are skipped cost nothing
   pub over-back-bounds : {ns : List Node} → Every (λ n. (rows : List Row) → BackBound n rows (go n rows)) ns → (rows : List Row) → BackBounds ns rows (overAll (k .limits) go ns rows)
-  unfolding overAll areasOf spareOf
+  unfolding overAll areasOf flagRoom
   over-back-bounds every-none rows = record { flags = omega arith; rest = λ left e. taken-none 0 e }
   over-back-bounds (every-more {a = n} {rest = ns} h hs) rows = begin (cornerInside (k .limits) n) refl (over-back-bounds hs)
     where
@@ -98,12 +98,12 @@ module _ (k : Kind) (go : Node → List Row → Run ℕ (List Row)) where
 module _ {k : Kind} (v : Proper k) where
   module _ {n : Node} (g : Good (k .limits) n) (step : Node → List Row → Run ℕ (List Row)) where
     refused-bound : (rows : List Row) → BackBound n rows noFlags
-    refused-bound rows = let a = least-area (g .shape) in record { flags = omega arith; rest = λ left e. never (cc) }
+    refused-bound rows = record { flags = omega arith; rest = λ left e. never (cc) }
 
     module _ (r : Row) (rows : List Row) where
-      leaf-bound : r ≡ rowOf n → BackBound n (r ∷ rows) (gives (flagsFor (rightsOf k n) Leaf) rows)
-      leaf-bound own = record {
-        flags = leaf-spare v (g .shape);
+      leaf-bound : r ≡ rowOf n → allows (rightsOf k n) Leaf ≡ true → BackBound n (r ∷ rows) (gives (flagsFor (rightsOf k n) Leaf) rows)
+      leaf-bound own ok = record {
+        flags = let f = decision-room v (g .shape) Leaf ok in omega arith;
         rest = λ left e. (1, cc, omega arith, rw own (let a = leaf-area (g .shape) in omega arith));
       }
 
@@ -112,8 +112,7 @@ module _ {k : Kind} (v : Proper k) where
       unfolding before
       split-bound d s ok b =
           let a = kids-areas (k .limits) (g .shape) d s in
-          let c = kids-spare v (g .shape) d s ok in
-          let f = flags-four (rightsOf k n) d in
+          let c = decision-room v (g .shape) d ok in
           let e = b .flags in
           record {
             flags = rw (length-append (flagsFor (rightsOf k n) d) (overAll (k .limits) step (children (k .limits) n d) (r ∷ rows) .given)) (omega arith);
@@ -123,7 +122,7 @@ module _ {k : Kind} (v : Proper k) where
       into-bound : (d : Decision) → decisionFrom (k .limits) n r rows ≡ d → allows (rightsOf k n) d ≡ true
           → BackBounds (children (k .limits) n d) (r ∷ rows) (overAll (k .limits) step (children (k .limits) n d) (r ∷ rows)) → BackBound n (r ∷ rows) (backInto k n step r rows d)
       unfolding backInto
-      into-bound Leaf i ok b = leaf-bound (leaf-own (k .limits) n r rows i)
+      into-bound Leaf i ok b = leaf-bound (leaf-own (k .limits) n r rows i) ok
       into-bound Quad i ok b = split-bound Quad refl ok b
       into-bound (Binary d) i ok b = split-bound (Binary d) refl ok b
       into-bound (Ternary d) i ok b = split-bound (Ternary d) refl ok b

@@ -20,7 +20,7 @@ use Rattle.tree.specs.Run.{End, goes, stops, Run, before, goOn, overAll}
 use Rattle.tree.specs.Reading.{levelsLeft, enter, walk, readNode}
 use Rattle.laws.specs.Every.{Every, every-none, every-more}
 use Rattle.laws.specs.Proper.{Proper}
-use Rattle.laws.specs.Areas.{areasOf, spareOf}
+use Rattle.laws.specs.Areas.{areasOf, roomOf, flagRoom}
 use Rattle.laws.specs.Good.{Good}
 use Rattle.laws.proofs.Tests.{never}
 use Rattle.laws.proofs.Every.{every-map, every-both}
@@ -31,24 +31,24 @@ use Rattle.laws.proofs.Levels.{child-shorter}
 use Rattle.laws.proofs.Edge.{good-kids, no-dead-end}
 use Rattle.laws.proofs.Bytes.{reads-length}
 use Rattle.laws.proofs.Flags.{decide-sound}
-use Rattle.laws.proofs.Counts.{flags-four}
 use Rattle.tree.specs.Splits.{isSplit}
-use Rattle.laws.proofs.Areas.{least-area, kids-areas, kids-spare, leaf-spare}
+use Rattle.laws.proofs.Areas.{least-area, kids-areas}
+use Rattle.laws.proofs.FlagAreas.{decision-room}
 
--- of a node: at most a row for every 16 samples, and a flag for every 4 samples, less 4
+-- of a node: at most a row for every 16 samples, and as many flags as it has room for
 pub record Bound (n : Node) (at : ℕ) (r : Run Row ℕ) : Type 0 where
   pub rows : 16 * length (r .given) ≤ n .w * n .h
-  pub place : (next : ℕ) → r .end ≡ goes next → 4 * next + 16 ≤ 4 * at + n .w * n .h
+  pub place : (next : ℕ) → r .end ≡ goes next → 64 * next ≤ 64 * at + roomOf n
 
 -- of nodes, one after the other
 pub record Bounds (ns : List Node) (at : ℕ) (r : Run Row ℕ) : Type 0 where
   pub rows : 16 * length (r .given) ≤ areasOf ns
-  pub place : (next : ℕ) → r .end ≡ goes next → 4 * next ≤ 4 * at + spareOf ns
+  pub place : (next : ℕ) → r .end ≡ goes next → 64 * next ≤ 64 * at + flagRoom ns
 
 module _ (k : Kind) (go : Node → ℕ → Run Row ℕ) where
   join-bounds : (n : Node) (ns : List Node) (at : ℕ) (given : List Row) (end : End ℕ) → Bound n at (record { given = given; end = end })
       → ((mid : ℕ) → Bounds ns mid (overAll (k .limits) go ns mid)) → Bounds (n ∷ ns) at (goOn given end (λ t. overAll (k .limits) go ns t))
-  unfolding goOn before areasOf spareOf
+  unfolding goOn before areasOf flagRoom
   join-bounds n ns at given (goes mid) b rest =
       let c = b .rows in
       let p = b .place mid refl in
@@ -61,7 +61,7 @@ module _ (k : Kind) (go : Node → ℕ → Run Row ℕ) where
 
   -- nodes that are skipped cost nothing
   pub over-bounds : {ns : List Node} → Every (λ n. cornerInside (k .limits) n ≡ true → (at : ℕ) → Bound n at (go n at)) ns → (at : ℕ) → Bounds ns at (overAll (k .limits) go ns at)
-  unfolding overAll areasOf spareOf
+  unfolding overAll areasOf flagRoom
   over-bounds every-none at = record { rows = omega arith; place = λ next e. let q : at ≡ next = cc in omega arith }
   over-bounds (every-more {a = n} {rest = ns} h hs) at = begin (cornerInside (k .limits) n) refl (over-bounds hs)
     where
@@ -75,24 +75,23 @@ module _ (k : Kind) (go : Node → ℕ → Run Row ℕ) where
 
 module _ {k : Kind} (v : Proper k) (flags : List ℕ) where
   module _ {n : Node} (g : Good (k .limits) n) (here : cornerInside (k .limits) n ≡ true) (step : Node → ℕ → Run Row ℕ) (at : ℕ) where
-    leaf-bound : {m : ℕ} → at + length (flagsFor (rightsOf k n) Leaf) ≡ m → Bound n at (enter k n step (Chosen Leaf m))
+    leaf-bound : {m : ℕ} → at + length (flagsFor (rightsOf k n) Leaf) ≡ m → allows (rightsOf k n) Leaf ≡ true → Bound n at (enter k n step (Chosen Leaf m))
     unfolding enter before ownRows children childrenFrom shares overAll
-    leaf-bound {m} near =
+    leaf-bound {m} near ok =
         let a = least-area (g .shape) in
-        let f = leaf-spare v (g .shape) in
+        let f = decision-room v (g .shape) Leaf ok in
         record { rows = omega arith; place = λ next e. let q : m ≡ next = cc in omega arith }
 
     split-bound : (d : Decision) {m : ℕ} → at + length (flagsFor (rightsOf k n) d) ≡ m → isSplit d ≡ true → allows (rightsOf k n) d ≡ true → (r : Run Row ℕ) → Bounds (children (k .limits) n d) m r → Bound n at r
     split-bound d near s ok r b =
         let a = kids-areas (k .limits) (g .shape) d s in
-        let c = kids-spare v (g .shape) d s ok in
-        let f = flags-four (rightsOf k n) d in
+        let c = decision-room v (g .shape) d ok in
         let e = b .rows in
         record { rows = omega arith; place = λ next e. let q = b .place next e in omega arith }
 
     made-bound : (d : Decision) {m : ℕ} → at + length (flagsFor (rightsOf k n) d) ≡ m → allows (rightsOf k n) d ≡ true → Bounds (children (k .limits) n d) m (overAll (k .limits) step (children (k .limits) n d) m) → Bound n at (enter k n step (Chosen d m))
     unfolding enter before ownRows
-    made-bound Leaf near ok b = leaf-bound near
+    made-bound Leaf near ok b = leaf-bound near ok
     made-bound Quad near ok b = split-bound Quad near refl ok _ b
     made-bound (Binary d) near ok b = split-bound (Binary d) near refl ok _ b
     made-bound (Ternary d) near ok b = split-bound (Ternary d) near refl ok _ b

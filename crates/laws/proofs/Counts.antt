@@ -41,7 +41,7 @@ module _ (r : Rights) where
       let b = bit-most (binaryThere r d) 1 in
       omega arith
 
-  for-count : (d : Decision) → length (flagsFor r d) ≡ flagsAt r d
+  pub for-count : (d : Decision) → length (flagsFor r d) ≡ flagsAt r d
   unfolding flagsFor
   for-count Leaf = byte-count (splitThere r) false
   for-count Quad = rw (then-count (splitThere r) true, byte-count (quadThere r) true)

@@ -2,7 +2,7 @@
 -- have. Of a square above all cuts, of side 8 to 64, this is 2; of one of 128 by 128, 6.
 use Prim.Native.Nat.{ℕ, _+_, _*_, _/_, _≤_}
 use mathlib.Core.Path.{_≡_, refl}
-use mathlib.Core.Bool.{Bool, true, false, cond, not, _&&_, _||_}
+use mathlib.Core.Bool.{Bool, true, false, not, _&&_}
 use mathlib.Core.List.{List, [], _∷_}
 use lib.ListN.{length}
 use lib.Dec.{leb, ltb, eqb}
@@ -16,28 +16,21 @@ use Rattle.tree.specs.declared.Decision.{Decision}
 use Rattle.tree.specs.declared.Decision.the-variants.{Leaf, Quad, Binary, Ternary}
 use Rattle.tree.specs.Kind.{Kind}
 use Rattle.tree.specs.Splits.{pick, along, Rights, rightsOf, allows}
+use Rattle.tree.specs.Flags.{flagsFor}
 use Rattle.tree.specs.Children.{shares, child, childMtt, childrenFrom, children}
 use Rattle.tree.specs.Tree.{Trees, Tree, none, skip, node, flagsOf}
 use Rattle.laws.specs.Counts.{flagsAt, flagCount}
 use Rattle.laws.specs.Every.{Every, every-none, every-more}
 use Rattle.laws.specs.Proper.{Proper}
-use Rattle.laws.specs.Areas.{areasOf}
+use Rattle.laws.specs.Areas.{areasOf, spare, roomOf, flagRoom}
 use Rattle.laws.specs.Shape.{Shape}
 use Rattle.laws.proofs.Areas.{kids-areas}
-use Rattle.laws.proofs.Counts.{Entails, flag-count, flags-grow}
+use Rattle.laws.proofs.Counts.{Entails, for-count, flag-count, flags-grow}
 use Rattle.laws.proofs.FlagRows.{cuts}
 use Rattle.laws.proofs.Opens.{quad-open, binary-open, ternary-open}
 use Rattle.laws.proofs.Shape.{shape-kids}
 use Rattle.laws.proofs.Sides.{one-of, forSides, at-side}
 use Rattle.laws.proofs.Tests.{implies, implies-use}
-
--- Of a node: 4 times the flags, and the spare, are at most 7 for each cell of 4 by 4 samples. Where the node is split, the
--- spares of its parts pay for its own and for the flags of its decision. The spare is 12; it is 8 above all cuts, where a
--- quad flag may come, and another one for nodes of one or two cells and for sides of 128, which have fewer flags.
-abbrev pub spare : ℕ → ℕ → Bool → ℕ
-spare w h cut =
-    cond (eqb w 128 && eqb h 128) 24
-    (cond (eqb w 128 || eqb h 128) 20 (cond (ltb 32 (w * h)) (cond cut 12 8) (cond (ltb 16 (w * h)) 10 7)))
 
 abbrev spareOf : Node → ℕ
 spareOf n = spare (n .w) (n .h) (ltb 0 (n .mtt))
@@ -96,6 +89,15 @@ at-node f t {n} sh =
     let b = at-side (λ h. forBool (f (n .w) h)) a (one-of (sh .side Horizontal)) in
     at-bool (f (n .w) (n .h)) b (ltb 0 (n .mtt))
 
+-- the samples of a node pay for its spare
+own-spare : {n : Node} → Shape n → 16 * spareOf n ≤ 7 * (n .w * n .h)
+own-spare sh = leb-true _ _ (at-node skips skip-test sh)
+
+rooms-areas : {ns : List Node} → Every Shape ns → flagRoom ns + 16 * sparesOf ns ≡ 7 * areasOf ns
+unfolding flagRoom roomOf areasOf
+rooms-areas every-none = refl
+rooms-areas (every-more sh shs) = let a = own-spare sh in let b = rooms-areas shs in omega arith
+
 module _ {k : Kind} (v : Proper k) {n : Node} (sh : Shape n) where
   abbrev bySides : Rights
   bySides = mostOpen (n .w) (n .h) (ltb 0 (n .mtt))
@@ -145,6 +147,17 @@ module _ {k : Kind} (v : Proper k) {n : Node} (sh : Shape n) where
   split-area (Binary d) = let a = kids-areas (k .limits) sh (Binary d) refl in omega arith
   split-area (Ternary d) = let a = kids-areas (k .limits) sh (Ternary d) refl in omega arith
 
+  -- the flags of a decision, and what there is room for below it, have room at the node
+  pub decision-room : (d : Decision) → allows (rightsOf k n) d ≡ true → 64 * length (flagsFor (rightsOf k n) d) + flagRoom (children (k .limits) n d) ≤ roomOf n
+  unfolding roomOf
+  decision-room d ok =
+      let p = node-pays d ok in
+      let c = for-count (rightsOf k n) d in
+      let s = split-spare d in
+      let a = split-area d in
+      let r = rooms-areas (shape-kids v sh d ok) in
+      omega arith
+
 -- ---- all nodes
 
 module _ {k : Kind} (v : Proper k) where
@@ -153,7 +166,7 @@ module _ {k : Kind} (v : Proper k) where
   count-spare none shs = omega arith
   count-spare (skip {n = n} out rest) (every-more sh shs) =
       let a = count-spare rest shs in
-      let b : 16 * spareOf n ≤ 7 * (n .w * n .h) = leb-true _ _ (at-node skips skip-test sh) in
+      let b = own-spare sh in
       omega arith
   count-spare (node {n = n} d here ok kids rest) (every-more sh shs) =
       let a = count-spare kids (shape-kids v sh d ok) in

@@ -4,6 +4,7 @@ use mathlib.Core.Path.{_≡_, refl, ap, _∙_}
 use mathlib.Core.Bool.{Bool, true, false}
 use mathlib.Core.List.{List, [], _∷_}
 use native.Mathlib.Omega.{arith}
+use lib.ListN.{length}
 use Rattle.tree.specs.declared.Node.{Node}
 use Rattle.tree.specs.declared.Share.{Share}
 use Rattle.tree.specs.declared.Decision.{Decision}
@@ -12,7 +13,7 @@ use Rattle.tree.specs.declared.Choice.the-variants.{Chosen, Refused}
 use Rattle.tree.specs.Kind.{Kind}
 use Rattle.tree.specs.Splits.{rightsOf, allows}
 pub use Rattle.tree.specs.Splits.{isSplit}
-use Rattle.tree.specs.Flags.{decide}
+use Rattle.tree.specs.Flags.{decide, flagsFor}
 use Rattle.tree.specs.Children.{shares, childQt, childMtt, child, childrenFrom, children, cornerInside}
 use Rattle.tree.specs.Rows.{Row, rowOf, ownRows}
 use Rattle.tree.specs.Run.{End, goes, stops, Run, refuse, before, goOn, overAll}
@@ -21,6 +22,7 @@ use Rattle.laws.specs.Every.{Every, every-none, every-more}
 use Rattle.laws.specs.Proper.{Proper}
 use Rattle.laws.specs.Good.{Good}
 use Rattle.laws.proofs.Tests.{never}
+use Rattle.laws.proofs.Bytes.{reads-length}
 use Rattle.laws.proofs.Flags.{decide-sound}
 use Rattle.laws.proofs.Opens.{quad-open}
 use Rattle.laws.proofs.Parts.{every-child}
@@ -92,3 +94,8 @@ module _ (k : Kind) (flags : List ℕ) (n : Node) (deep : n .qt + n .mtt < 256) 
 pub split-allowed : {k : Kind} → Proper k → {n : Node} → Good (k .limits) n → cornerInside (k .limits) n ≡ true → (flags : List ℕ) (at : ℕ) {next : ℕ} {d : Decision}
     → decide (rightsOf k n) flags at ≡ Chosen d next → allows (rightsOf k n) d ≡ true
 split-allowed {k} v {n} g here flags at e = decide-sound flags (rightsOf k n) (no-dead-end v g here) e .ok
+
+-- and as many flags are read as say it
+pub split-reads : {k : Kind} → Proper k → {n : Node} → Good (k .limits) n → cornerInside (k .limits) n ≡ true → (flags : List ℕ) (at : ℕ) {next : ℕ} {d : Decision}
+    → decide (rightsOf k n) flags at ≡ Chosen d next → at + length (flagsFor (rightsOf k n) d) ≡ next
+split-reads {k} v {n} g here flags at e = reads-length (decide-sound flags (rightsOf k n) (no-dead-end v g here) e .reads)

@@ -22,7 +22,7 @@ use Rattle.blocks.specs.RowNumbers.{rowWord}
 use Rattle.laws.specs.Areas.{areasOf}
 use Rattle.laws.proofs.Areas.{least-area}
 use Rattle.laws.proofs.Near.{decide-near, refused-near}
-use Rattle.laws.proofs.Steps.{isSplit, split-allowed, reading-refused, reading-leaf, reading-split}
+use Rattle.laws.proofs.Steps.{isSplit, split-allowed, split-reads, reading-refused, reading-leaf, reading-split}
 use Rattle.nodes.specs.State.{refusal, placeOf, givenOf}
 use Rattle.walks.specs.Stands.{Word, Placed}
 use Rattle.walks.specs.Walks.{walkOver, Done, Asked, Walked}
@@ -45,10 +45,10 @@ pub record Sees (stands : Kind → Node → Word → Type 0) (u flags : List ℕ
 
 -- ---- a state at another place, which is small
 
-moved-is : (p q m next : ℕ) → p < 4294967296 → q < 1024 → next ≤ 4096 → m < 2 ^ 64 → (m + p) % 2 ^ 64 ≡ (q * 4294967296 + p + next) % 2 ^ 64 → m ≡ q * 4294967296 + next
+moved-is : (p q m next : ℕ) → p < 4294967296 → q < 1024 → next ≤ 2048 → m < 2 ^ 64 → (m + p) % 2 ^ 64 ≡ (q * 4294967296 + p + next) % 2 ^ 64 → m ≡ q * 4294967296 + next
 moved-is p q m next a b c d e = omega arith
 
-moved-place : (q next m : ℕ) → next ≤ 4096 → m ≡ q * 4294967296 + next → (placeOf m ≡ next) × (givenOf m ≡ q)
+moved-place : (q next m : ℕ) → next ≤ 2048 → m ≡ q * 4294967296 + next → (placeOf m ≡ next) × (givenOf m ≡ q)
 moved-place q next m a e = (omega arith, omega arith)
 
 -- ---- what the code knows
@@ -68,7 +68,7 @@ module _ (flags : List ℕ) {stands : Kind → Node → Word → Type 0} {u : Li
       (one-refused (readWay flags) none-stored k n s c b (y .here) (reading-refused k flags n (shallow (y .placed)) s (y .decides))))
 
   module _ {d : Decision} {next : ℕ} (sees : Sees stands u flags c w (Chosen d next)) where
-    few : (k : Kind) (n : Node) (s : ℕ) → Case (readWay flags) stands u c w k n s → (givenOf c < 1024) × (placeOf c ≤ next) × (next ≤ placeOf c + 4) × (placeOf c ≤ 4092)
+    few : (k : Kind) (n : Node) (s : ℕ) → Case (readWay flags) stands u c w k n s → (givenOf c < 1024) × (placeOf c ≤ next) × (next ≤ placeOf c + 4) × (placeOf c ≤ 2044)
     unfolding areasOf
     few k n s x =
         let y = at-case sees x in
@@ -129,5 +129,5 @@ module _ (flags : List ℕ) {stands : Kind → Node → Word → Type 0} {u : Li
         count = omega arith;
         put = nothing-stored (readWay flags) none-stored c b;
         rows = count;
-        flags = omega arith;
+        flags = let r = split-reads (x .proper) (y .placed .good) (y .here) flags s (y .decides) in let i = x .placed in omega arith;
       }

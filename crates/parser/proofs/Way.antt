@@ -8,9 +8,8 @@ use Rattle.tree.specs.Kind.{Kind}
 use Rattle.tree.specs.Rows.{Row}
 use Rattle.tree.specs.Run.{overAll}
 use Rattle.blocks.specs.RowNumbers.{rowWord}
-use Rattle.laws.specs.Areas.{areasOf, spareOf}
+use Rattle.laws.specs.Areas.{areasOf, flagRoom}
 use Rattle.laws.specs.Proper.{Proper}
-use Rattle.laws.proofs.Areas.{least-area}
 use Rattle.laws.proofs.Bounds.{Bound, reading-bound}
 use Rattle.walks.specs.Stands.{Placed}
 use Rattle.walks.specs.Walks.{walkOver}
@@ -28,10 +27,10 @@ one-bound : {k : Kind} → Proper k → {n : Node} → Placed (k .limits) n → 
 unfolding overAll
 one-bound {k} v {n} s flags at =
     here-or-gone (readWay flags) k n at (λ r. Bound n at r) (λ here. reading-bound v (s .good) (s .sum) here flags at)
-    (let a = least-area (s .good .shape) in record { rows = omega arith; place = λ next h. let f : at ≡ next = cc in omega arith })
+    (record { rows = omega arith; place = λ next h. let f : at ≡ next = cc in omega arith })
 
 pub read-lawful : (flags : List ℕ) → Lawful (readWay flags)
-unfolding areasOf spareOf
+unfolding areasOf flagRoom
 read-lawful flags = record {
   join = words-append;
   step = λ k n v s ns p count at is room.

@@ -12,7 +12,8 @@ use Rattle.settings.specs.Units.{unitRefusal, squareAt}
 use Rattle.settings.proofs.Grid.{unit-taken}
 use Rattle.tree.specs.Rows.{tableBytes}
 use Rattle.tree.specs.Tree.{flagsOf, rowsOf}
-use Rattle.laws.proofs.FlagAreas.{spare, square-flags}
+use Rattle.laws.specs.Areas.{spare}
+use Rattle.laws.proofs.FlagAreas.{square-flags}
 use Rattle.laws.proofs.FlagRows.{flags-four-rows}
 use Rattle.laws.proofs.Sizes.{rows-fit}
 use Rattle.unit.specs.declared.Answer.the-variants.{Accepted, Refused}

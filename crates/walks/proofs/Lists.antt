@@ -7,7 +7,7 @@ use lib.ListN.{length}
 use Rattle.tree.specs.declared.Node.{Node}
 use Rattle.tree.specs.Kind.{Kind}
 use Rattle.tree.specs.Run.{goes, overAll}
-use Rattle.laws.specs.Areas.{areasOf, spareOf}
+use Rattle.laws.specs.Areas.{areasOf, flagRoom}
 use Rattle.nodes.specs.State.{placeOf, givenOf}
 use Rattle.walks.specs.Stands.{Word, Placed, AllStand, no-more, one-more}
 use Rattle.walks.specs.Walks.{Way, Room, walkOver, Says, Done, Ready, Asked, Walked}
@@ -20,7 +20,7 @@ alone P (one-more {n = n} s no-more) f = f n s
 
 -- room for several nodes is room for the first
 first-room : (rows flags : ℕ) (n : Node) (ns : List Node) → Room rows flags (n ∷ ns) → Room rows flags (n ∷ [])
-unfolding areasOf spareOf
+unfolding areasOf flagRoom
 first-room rows flags n ns room = let a = room .forRows in let b = room .forFlags in record { forRows = omega arith; forFlags = omega arith }
 
 module _ {A S : Type 0} (way : Way A S) (stands : Kind → Node → Word → Type 0) where

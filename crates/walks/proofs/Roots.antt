@@ -13,9 +13,8 @@ use Rattle.tree.specs.Splits.{isOut, inside, rightsOf, openSplits}
 use Rattle.tree.specs.Children.{cornerInside}
 use Rattle.tree.specs.Rows.{rowOf}
 use Rattle.blocks.specs.RowNumbers.{rowWord}
-use Rattle.laws.specs.Areas.{areasOf, spareOf}
+use Rattle.laws.specs.Areas.{areasOf, roomOf, flagRoom}
 use Rattle.laws.specs.Proper.{Proper, RootSquare}
-use Rattle.laws.proofs.Areas.{least-area}
 use Rattle.laws.proofs.Edge.{good-root}
 use Rattle.laws.proofs.Picture.{starts-in}
 use Rattle.laws.proofs.Runs.{over-one}
@@ -101,10 +100,9 @@ module _ {k : Kind} {root : Node} {u : List ℕ} {row : ℕ} {out : Bool} {split
 
   module _ {A S : Type 0} (way : Way A S) (s : S) (c : ℕ) (at : way .at (placeOf c) s) (room : RootRoom (way .rows (placeOf c) (givenOf c)) (way .flags (placeOf c) (givenOf c)) row) where
     room-here : RoomAt way (placeOf c) (givenOf c) (root ∷ [])
-    unfolding areasOf spareOf
+    unfolding areasOf roomOf flagRoom
     room-here =
         let e = says-area in
-        let a = least-area (g .rooted .placed .good .shape) in
         let q = room .forRows in
         let f = room .forFlags in
         record { forRows = omega arith; forFlags = omega arith }

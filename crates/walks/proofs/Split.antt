@@ -9,12 +9,14 @@ use Rattle.tree.specs.declared.Node.{Node}
 use Rattle.tree.specs.declared.Decision.{Decision}
 use Rattle.tree.specs.Kind.{Kind}
 use Rattle.tree.specs.Splits.{isSplit, isOut, rightsOf, allows}
+use Rattle.tree.specs.Flags.{flagsFor}
 use Rattle.tree.specs.Children.{children, cornerInside}
 use Rattle.tree.specs.Rows.{rowOf}
 use Rattle.tree.specs.Run.{before}
 use Rattle.blocks.specs.RowNumbers.{rowWord}
-use Rattle.laws.specs.Areas.{areasOf, spareOf}
-use Rattle.laws.proofs.Areas.{kids-areas, kids-spare}
+use Rattle.laws.specs.Areas.{areasOf, flagRoom}
+use Rattle.laws.proofs.Areas.{kids-areas}
+use Rattle.laws.proofs.FlagAreas.{decision-room}
 use Rattle.nodes.specs.State.{placeOf, givenOf}
 use Rattle.nodes.specs.Tables.{limitsIn}
 use Rattle.nodes.specs.RowNodes.{nodeIn}
@@ -40,7 +42,7 @@ module _ {A S : Type 0} (way : Way A S) (c : ℕ) (d : Decision) (b : List ℕ) 
     pub count : givenOf m ≡ givenOf c + length own
     pub put : Stored way c b own mid
     pub rows : way .rows (placeOf m) (givenOf m) ≡ way .rows (placeOf c) (givenOf c)
-    pub flags : way .flags (placeOf m) (givenOf m) ≤ way .flags (placeOf c) (givenOf c) + 4
+    pub flags : way .flags (placeOf m) (givenOf m) ≤ way .flags (placeOf c) (givenOf c) + length (flagsFor (rightsOf k n) d)
 
   -- a split of all nodes that numbers may stand for, and the numbers of the children
   pub record Split (stands : Kind → Node → Word → Type 0) (u : List ℕ) (w : Word) (ws : List Word) : Type 0 where
@@ -71,12 +73,12 @@ module _ {A S : Type 0} {way : Way A S} {c : ℕ} {d : Decision} {b : List ℕ} 
     area k n v s = area-says (x .says k n v s .0) (x .says k n v s .1)
 
     kids-ready : {k : Kind} {n : Node} {s : S} (at : Case way stands u c w k n s) → Ready way stands k (children (k .limits) n d) (x .turn k n s at .state) u m ws
-    unfolding areasOf spareOf
+    unfolding areasOf flagRoom
     kids-ready {k} {n} {s} at =
         let y = x .turn k n s at in
         let shape = x .says k n w (at .stands-for) .0 .good .shape in
         let a = kids-areas (k .limits) shape d (x .split) in
-        let f = kids-spare (at .proper) shape d (x .split) (y .ok) in
+        let f = decision-room (at .proper) shape d (y .ok) in
         let q = at .room .forRows in
         let g = at .room .forFlags in
         let i = y .rows in

@@ -36,4 +36,4 @@ pub record SomeRoot (u : List ℕ) (row : ℕ) (out : Bool) (splits : ℕ) : Typ
 -- A root's walk may begin at any place, after any number given: there is room for its tree behind so many rows and flags.
 pub record RootRoom (rows flags row : ℕ) : Type 0 where
   pub forRows : 16 * rows + areaIn row ≤ 16384
-  pub forFlags : 4 * flags + areaIn row ≤ 16384
+  pub forFlags : 64 * flags + 7 * areaIn row ≤ 130816

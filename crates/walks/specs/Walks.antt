@@ -6,7 +6,7 @@ use lib.ListN.{length, take}
 use Rattle.tree.specs.declared.Node.{Node}
 use Rattle.tree.specs.Kind.{Kind}
 use Rattle.tree.specs.Run.{End, goes, stops, Run, overAll}
-use Rattle.laws.specs.Areas.{areasOf, spareOf}
+use Rattle.laws.specs.Areas.{areasOf, flagRoom}
 use Rattle.laws.specs.Proper.{Proper}
 use Rattle.nodes.specs.Tables.{tableOf}
 use Rattle.nodes.specs.State.{refusal, placeOf, givenOf}
@@ -21,10 +21,10 @@ pub record Way (A S : Type 0) : Type 1 where
   pub rows : ℕ → ℕ → ℕ
   pub flags : ℕ → ℕ → ℕ
 
--- room for the rows and the flags of nodes: 16 samples for each row, and 4 for each flag, 16 of each node left
+-- room for the rows and the flags of nodes: 16 samples for each row, and 2,044 flags in all
 pub record Room (rows flags : ℕ) (ns : List Node) : Type 0 where
   pub forRows : 16 * rows + areasOf ns ≤ 16384
-  pub forFlags : 4 * flags + spareOf ns ≤ 16368
+  pub forFlags : 64 * flags + flagRoom ns ≤ 130816
 
 module _ {A S : Type 0} (way : Way A S) where
   -- the walk over nodes, from a state

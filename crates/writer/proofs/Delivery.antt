@@ -18,7 +18,7 @@ use Rattle.writer.specs.Delivery.{walkEnd}
 
 module _ (bytes : List ℕ) (answer count : ℕ) where
   -- a walk that goes on: rows are left where its place is before the end
-  left-is : length bytes % 8 ≡ 0 → count ≤ 4096 → givenOf answer ≡ count → (left : List Row) → Left bytes (placeOf answer) left → walkEnd answer bytes ≡ endAnswer count (noneLeft (goes left))
+  left-is : length bytes % 8 ≡ 0 → count ≤ 2048 → givenOf answer ≡ count → (left : List Row) → Left bytes (placeOf answer) left → walkEnd answer bytes ≡ endAnswer count (noneLeft (goes left))
   unfolding walkEnd noneLeft
   left-is whole few e [] l =
       let n = ap length (l .from) ∙ rows-long (length bytes / 8 - placeOf answer / 8) bytes (placeOf answer / 8 * 8) in
@@ -34,7 +34,7 @@ module _ (bytes : List ℕ) (answer count : ℕ) where
 
 -- ---- a walk of a whole tree, from the first flag on
 
-pub walk-end : (bytes : List ℕ) (run : Run ℕ (List Row)) {b z : List ℕ} {answer : ℕ} → Done (backWay bytes) run 0 b answer z → length bytes % 8 ≡ 0 → length (run .given) ≤ 4096 → BackFine (run .end)
+pub walk-end : (bytes : List ℕ) (run : Run ℕ (List Row)) {b z : List ℕ} {answer : ℕ} → Done (backWay bytes) run 0 b answer z → length bytes % 8 ≡ 0 → length (run .given) ≤ 2048 → BackFine (run .end)
     → walkEnd answer bytes ≡ endAnswer (length (run .given)) (noneLeft (run .end))
 unfolding Says noneLeft
 walk-end bytes run {b} {z} {answer} done whole few fine = go (run .end) fine (subst (λ (i : ℕ). Says (backWay bytes) answer i (run .end)) (omega arith) (done .said))

@@ -87,6 +87,6 @@ module _ (n : ℕ) (scratch b : List ℕ) where
   unfolding deliverFlags
   all-short h = rw (lt-ltb _ _ h) (record { answers = refl; leaves = refl })
 
-  pub all-done : n ≤ 4096 → length scratch ≡ 4096 → n ≤ length b → {z : List ℕ} → z ≡ copied n scratch b → Meets (deliverFlags n scratch b) (Accepted n) z
+  pub all-done : n ≤ 2048 → length scratch ≡ 2048 → n ≤ length b → {z : List ℕ} → z ≡ copied n scratch b → Meets (deliverFlags n scratch b) (Accepted n) z
   unfolding deliverFlags
   all-done few len h e = rw (le-ltb _ _ h) (record { answers = refl; leaves = e ∙ copied-all n scratch b h (omega arith) })

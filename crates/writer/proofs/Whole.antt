@@ -14,6 +14,7 @@ use Rattle.tree.specs.Rows.{Row, rowsIn}
 use Rattle.tree.specs.Run.{Run, goes, refuse}
 use Rattle.tree.specs.Reading.{levelsLeft}
 use Rattle.tree.specs.Back.{backNode}
+use Rattle.laws.specs.Areas.{roomOf}
 use Rattle.laws.proofs.BackBounds.{back-bound}
 use Rattle.laws.proofs.BackRefusals.{back-fine}
 use Rattle.unit.specs.declared.Answer.{Answer}
@@ -54,7 +55,7 @@ module _ (l : Limits) (root : Node) (bytes : List ℕ) where
     kept-count : {n : ℕ} → said ≡ Accepted n → (length (tested .given) ≡ n) × (rows : List Row) × (tested .end ≡ goes rows)
     kept-count e = answer-goes tested (sym (kept .answers) ∙ e)
 
-    pub kept-few : {n : ℕ} → said ≡ Accepted n → n ≤ 4096
+    pub kept-few : {n : ℕ} → said ≡ Accepted n → n ≤ 2048
     kept-few e = rw (kept-count e .0) at (kept .few)
 
     pub kept-written : {n : ℕ} → said ≡ Accepted n → {r : Answer} {left : List ℕ}
@@ -68,12 +69,12 @@ module _ (l : Limits) (root : Node) (bytes : List ℕ) where
 -- what the walk of the root answers is the test's end, and the scratch table has its flags
 pub root-kept : {l : Limits} {root : Node} → Rooted (luma l) root → (bytes : List ℕ) → length bytes % 8 ≡ 0 → {b z : List ℕ} {answer : ℕ} → Done (backWay bytes) (backNode (luma l) root (rowsIn bytes)) 0 b answer z
     → {said : Answer} → said ≡ walkEnd answer bytes → InScratch (testRows (luma l) root bytes) said z
-unfolding testRows flagsFrom
+unfolding testRows flagsFrom roomOf
 root-kept {l} {root} r bytes whole {b} {z} done e =
     let run = backNode (luma l) root (rowsIn bytes) in
     let a = mul-le-mul (r .placed .good .shape .side Vertical .most) (r .placed .good .shape .side Horizontal .most) in
     let q = back-bound (r .proper) (r .placed .good) (r .placed .sum) (rowsIn bytes) .flags in
-    let few : length (run .given) ≤ 4096 = omega arith in
+    let few : length (run .given) ≤ 2048 = omega arith in
     let i : length (run .given) ≡ givenOf 0 + length (run .given) = omega arith in
     rw (eq-eqb _ _ whole)
     (record {

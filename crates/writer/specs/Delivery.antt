@@ -42,8 +42,8 @@ unfoldable pub deliverFlags : ℕ → List ℕ → List ℕ → Outcome
 deliverFlags n scratch buffer =
     cond (ltb (length buffer) n) (refused 17 n buffer) (record { answer = Accepted n; buffer = take n scratch ++ drop n buffer })
 
--- a test's answer, its flags at the front of a scratch table, and that they are 4,096 at most
+-- a test's answer, its flags at the front of a scratch table, and that they are 2,048 at most
 pub record InScratch (run : Run ℕ (List Row)) (said : Answer) (after : List ℕ) : Type 0 where
   pub answers : said ≡ answerOf run
   pub flags : take (length (run .given)) after ≡ run .given
-  pub few : length (run .given) ≤ 4096
+  pub few : length (run .given) ≤ 2048

@@ -22,7 +22,7 @@ pub(crate) fn leaf_flags(splits: u32, flags: &mut [u8]) -> Answer
 
 // The first n flags of a scratch table into the lent buffer.
 pub(crate) fn all_flags(n: usize, scratch: &Scratch, flags: &mut [u8]) -> Answer
-    requires { ⌜ n ≤ 4096 ⌝ }
+    requires { ⌜ n ≤ 2048 ⌝ }
     ensures { λ r. ⌜ Meets (deliverFlags n (now (scratch .entry)) (now (flags .entry))) r (now (flags .exit)) ⌝ }
 {
     if flags.len() < n {

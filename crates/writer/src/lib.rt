@@ -22,7 +22,7 @@ fn write_all(l: Limits, root: Node, rows: &[u8], flags: &mut [u8]) -> Answer
     requires { ⌜ Rooted (luma l) root × (length (now rows) % 8 ≡ 0) ⌝ }
     ensures { λ r. ⌜ Meets (writeRows (luma l) root (now (rows .entry)) (now (flags .entry))) r (now (flags .exit)) ⌝ }
 {
-    let mut scratch = [0u8; 4096];
+    let mut scratch = [0u8; 2048];
     match test::test_all(l, root, rows, &mut scratch) {
         Answer::Refused(number, place) => Answer::Refused(number, place),
         Answer::Accepted(n) => deliver::all_flags(n, &scratch, flags),

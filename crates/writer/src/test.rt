@@ -67,7 +67,7 @@ fn walk_end(answer: u64, rows: &[u8]) -> Answer
 
 // The test of whole rows by a walk: 16, or the number of their flags, which the scratch table then begins with.
 pub(crate) fn test_all(l: Limits, root: Node, rows: &[u8], scratch: &mut Scratch) -> Answer
-    requires { ⌜ Rooted (luma l) root × (length (now rows) % 8 ≡ 0) × (length (now scratch) ≡ 4096) ⌝ }
+    requires { ⌜ Rooted (luma l) root × (length (now rows) % 8 ≡ 0) × (length (now scratch) ≡ 2048) ⌝ }
     ensures { λ r. ⌜ InScratch (testRows (luma l) root (now (rows .entry))) r (now (scratch .exit)) ⌝ }
 {
     let u = nodes::luma_table(l);
@@ -88,7 +88,7 @@ fn test_rows(l: Limits, root: Node, rows: &[u8]) -> Answer
     if is_leaf(l, root, rows) {
         return Answer::Accepted(leaf_count(leaf_splits(l, root)));
     }
-    let mut scratch = [0u8; 4096];
+    let mut scratch = [0u8; 2048];
     test_all(l, root, rows, &mut scratch)
 }
 

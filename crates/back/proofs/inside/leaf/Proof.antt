@@ -9,10 +9,10 @@ use Rattle.back.proofs.inside.leaf.Statement.{statement}
 use Rattle.back.proofs.inside.leaf.Tie as tie
 
 -- the state after the row, and after a flag besides
-on-row : (c r : ℕ) → givenOf c < 4096 → placeOf c ≤ 8192 → r ≡ (c + 8) % 2 ^ 64 → (givenOf r ≡ givenOf c) × (placeOf r ≡ placeOf c + 8)
+on-row : (c r : ℕ) → givenOf c < 2048 → placeOf c ≤ 8192 → r ≡ (c + 8) % 2 ^ 64 → (givenOf r ≡ givenOf c) × (placeOf r ≡ placeOf c + 8)
 on-row c r few near e = (omega arith, omega arith)
 
-on-flag : (c m r : ℕ) → givenOf c < 4096 → placeOf c ≤ 8192 → m ≡ (c + 8) % 2 ^ 64 → r ≡ (m + 4294967296) % 2 ^ 64 → (givenOf r ≡ givenOf c + 1) × (placeOf r ≡ placeOf c + 8)
+on-flag : (c m r : ℕ) → givenOf c < 2048 → placeOf c ≤ 8192 → m ≡ (c + 8) % 2 ^ 64 → r ≡ (m + 4294967296) % 2 ^ 64 → (givenOf r ≡ givenOf c + 1) × (placeOf r ≡ placeOf c + 8)
 on-flag c m r few near e f = let g = on-row c m few near e in (omega arith, omega arith)
 
 returns : tie.Need-returns
