@@ -9,7 +9,7 @@ use Rattle.tree.specs.Kind.{Kind}
 use Rattle.tree.specs.Rows.{rowsAt, rowsIn}
 use Rattle.tree.specs.Back.{backNode}
 use Rattle.nodes.specs.State.{placeOf}
-use Rattle.walks.specs.Rooted.{RootRoom}
+use Rattle.walks.specs.Rooted.{RoomFor}
 use Rattle.walks.specs.Walks.{Done}
 use Rattle.marks.specs.Table.{rowsLeft}
 use Rattle.back.specs.Walking.{Left, backWay, Starts}
@@ -19,7 +19,7 @@ pub starts-left : {bytes : List ℕ} {c row : ℕ} → Starts bytes c row → Le
 starts-left s = record { from = refl; first = s .first; within = s .within }
 
 -- from the first row on, all rows are left, and none is before them
-pub starts-first : (bytes : List ℕ) {row : ℕ} → RootRoom 0 0 row → Starts bytes 0 row
+pub starts-first : (bytes : List ℕ) {row : ℕ} → RoomFor (backWay bytes) 0 row → Starts bytes 0 row
 starts-first bytes room = record { first = refl; within = omega arith; room = room }
 
 pub first-done : (bytes : List ℕ) (k : Kind) (root : Node) {b z : List ℕ} {r : ℕ} → Done (backWay bytes) (backNode k root (rowsLeft bytes 0)) 0 b r z → Done (backWay bytes) (backNode k root (rowsIn bytes)) 0 b r z

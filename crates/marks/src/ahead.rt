@@ -25,8 +25,8 @@ fn first_cells(area: u32, share: u32) -> u32
     area * share / 64
 }
 
-// The cut of a node inside the picture, whose rows begin at a place; the shares of a cut are the same in both directions.
-// The tests are branches: by selects the three loads would stand in the chain from row to row.
+// The cut of a node inside the picture, whose rows begin at a place; the shares of a cut are the same in both
+// directions. The tests are branches: by selects the three loads would stand in the chain from row to row.
 fn cut_ahead(row: u64, marks: &Marks, at: usize) -> Decision
     ensures { λ r. ⌜ Cut (now (marks .entry)) row at r ⌝ }
 {

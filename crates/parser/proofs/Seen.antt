@@ -45,10 +45,10 @@ pub record Sees (stands : Kind → Node → Word → Type 0) (u flags : List ℕ
 
 -- ---- a state at another place, which is small
 
-moved-is : (p q m next : ℕ) → p < 4294967296 → q < 1024 → next ≤ 2048 → m < 2 ^ 64 → (m + p) % 2 ^ 64 ≡ (q * 4294967296 + p + next) % 2 ^ 64 → m ≡ q * 4294967296 + next
+moved-is : (p q m next : ℕ) → p < 4294967296 → q < 1024 → next ≤ 2147483652 → m < 2 ^ 64 → (m + p) % 2 ^ 64 ≡ (q * 4294967296 + p + next) % 2 ^ 64 → m ≡ q * 4294967296 + next
 moved-is p q m next a b c d e = omega arith
 
-moved-place : (q next m : ℕ) → next ≤ 2048 → m ≡ q * 4294967296 + next → (placeOf m ≡ next) × (givenOf m ≡ q)
+moved-place : (q next m : ℕ) → next ≤ 2147483652 → m ≡ q * 4294967296 + next → (placeOf m ≡ next) × (givenOf m ≡ q)
 moved-place q next m a e = (omega arith, omega arith)
 
 -- ---- what the code knows
@@ -68,7 +68,7 @@ module _ (flags : List ℕ) {stands : Kind → Node → Word → Type 0} {u : Li
       (one-refused (readWay flags) none-stored k n s c b (y .here) (reading-refused k flags n (shallow (y .placed)) s (y .decides))))
 
   module _ {d : Decision} {next : ℕ} (sees : Sees stands u flags c w (Chosen d next)) where
-    few : (k : Kind) (n : Node) (s : ℕ) → Case (readWay flags) stands u c w k n s → (givenOf c < 1024) × (placeOf c ≤ next) × (next ≤ placeOf c + 4) × (placeOf c ≤ 2044)
+    few : (k : Kind) (n : Node) (s : ℕ) → Case (readWay flags) stands u c w k n s → (givenOf c < 1024) × (placeOf c ≤ next) × (next ≤ placeOf c + 4) × (placeOf c ≤ 2147483648)
     unfolding areasOf
     few k n s x =
         let y = at-case sees x in

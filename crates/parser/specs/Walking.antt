@@ -16,7 +16,7 @@ unfoldable pub rowWords : List Row → List ℕ
 rowWords [] = []
 rowWords (r ∷ rows) = rowWord r ∷ rowWords rows
 
--- from a place of the flags to rows
+-- from a place of the flags to rows; a place is below 2 ^ 31
 abbrev pub readWay : List ℕ → Way Row ℕ
 readWay flags = record {
   go = λ k n at. readNode k flags n at;
@@ -24,6 +24,7 @@ readWay flags = record {
   stored = rowWords;
   rows = λ place count. count;
   flags = λ place count. place;
+  most = 137438953472;
 }
 
 -- the next flag is 0

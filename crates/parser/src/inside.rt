@@ -1,5 +1,5 @@
-// The reading of nodes inside the picture. The open splits of siblings are found once, by their parent, and a leaf is met by its parent, so that only
-// splits cost a call.
+// The reading of nodes inside the picture. The open splits of siblings are found once, by their parent, and a leaf is
+// met by its parent, so that only splits cost a call.
 use crate::scratch::Scratch;
 use nodes::Child;
 use nodes::Table;
@@ -66,8 +66,8 @@ pub(crate) fn child_walk(
     node_walk(u, after, rows, c, row, bound, splits)
 }
 
-// Reads a node of which some split is open and whose next flag is not 0. Two callers keep it a function of its own; its first test and the copies of
-// the lent slice let the compiler pass that in two registers.
+// Reads a node of which some split is open and whose next flag is not 0. Two callers keep it a function of its own; its
+// first test and the copies of the lent slice let the compiler pass that in two registers.
 pub(crate) fn node_walk(
     u: &Table,
     flags: &[u8],

@@ -19,9 +19,9 @@ pub alone : {stands : Node → Word → Type 0} {w : Word} {ns : List Node} (P :
 alone P (one-more {n = n} s no-more) f = f n s
 
 -- room for several nodes is room for the first
-first-room : (rows flags : ℕ) (n : Node) (ns : List Node) → Room rows flags (n ∷ ns) → Room rows flags (n ∷ [])
+first-room : (rows flags most : ℕ) (n : Node) (ns : List Node) → Room rows flags most (n ∷ ns) → Room rows flags most (n ∷ [])
 unfolding areasOf flagRoom
-first-room rows flags n ns room = let a = room .forRows in let b = room .forFlags in record { forRows = omega arith; forFlags = omega arith }
+first-room rows flags most n ns room = let a = room .forRows in let b = room .forFlags in record { forRows = omega arith; forFlags = omega arith }
 
 module _ {A S : Type 0} (way : Way A S) (stands : Kind → Node → Word → Type 0) where
   -- no nodes: the walk is where it was, and nothing is given
@@ -36,7 +36,7 @@ module _ {A S : Type 0} (way : Way A S) (stands : Kind → Node → Word → Typ
     -- the first node's own part of what a walk over several starts from
     module _ {k : Kind} {n : Node} {ns : List Node} {s : S} {u : List ℕ} {c : ℕ} {w : Word} {ws : List Word} (ready : Ready way stands k (n ∷ ns) s u c (w ∷ ws)) (st : stands k n w) (ss : AllStand (stands k) ns ws) where
       one-ready : Ready way stands k (n ∷ []) s u c (w ∷ [])
-      one-ready = record { proper = ready .proper; table = ready .table; stand = one-more st no-more; placed = ready .placed; room = first-room _ _ n ns (ready .room) }
+      one-ready = record { proper = ready .proper; table = ready .table; stand = one-more st no-more; placed = ready .placed; room = first-room _ _ _ n ns (ready .room) }
 
       one-step : Step way ns (givenOf c) (walkOver way k (n ∷ []) s)
       one-step = lawful .step k n (ready .proper) (placed k n w st) ns (placeOf c) (givenOf c) s (ready .placed) (ready .room)

@@ -21,7 +21,7 @@ use Rattle.laws.proofs.Runs.{over-one}
 use Rattle.nodes.specs.State.{placeOf, givenOf}
 use Rattle.nodes.specs.Tables.{tableOf, limitsIn}
 use Rattle.nodes.specs.RowNodes.{nodeIn, boundIn, depthAbove}
-use Rattle.walks.specs.Rooted.{Rooted, Given, SomeRoot, RootRoom}
+use Rattle.walks.specs.Rooted.{Rooted, Given, SomeRoot, RootRoom, RoomFor}
 use Rattle.walks.specs.Stands.{word, areaIn, Outer, Inside, no-more, one-more}
 use Rattle.walks.specs.Walks.{Way, RoomAt, walkOver, Ready, Done, Asked, Walked}
 use Rattle.walks.proofs.RowFields.{area-says, right-says, bottom-says, corner-says}
@@ -91,14 +91,14 @@ module _ {k : Kind} {root : Node} {u : List ℕ} {row : ℕ} {out : Bool} {split
   says-area = area-says (g .rooted .placed) (g .row-is)
 
   -- where nothing is read and nothing is given yet, there is room for its tree
-  pub root-room : RootRoom 0 0 row
-  root-room =
+  pub root-room : (most : ℕ) → 114688 ≤ most → RootRoom 0 0 most row
+  root-room most h =
       let e = says-area in
       let s = g .rooted .placed .good .shape in
       let a = mul-le-mul (s .side Vertical .most) (s .side Horizontal .most) in
       record { forRows = omega arith; forFlags = omega arith }
 
-  module _ {A S : Type 0} (way : Way A S) (s : S) (c : ℕ) (at : way .at (placeOf c) s) (room : RootRoom (way .rows (placeOf c) (givenOf c)) (way .flags (placeOf c) (givenOf c)) row) where
+  module _ {A S : Type 0} (way : Way A S) (s : S) (c : ℕ) (at : way .at (placeOf c) s) (room : RoomFor way c row) where
     room-here : RoomAt way (placeOf c) (givenOf c) (root ∷ [])
     unfolding areasOf roomOf flagRoom
     room-here =
@@ -131,7 +131,7 @@ module _ {k : Kind} {root : Node} {u : List ℕ} {row : ℕ} {out : Bool} {split
 
 -- ---- the same of some root, and of every root that the numbers may be given for
 
-module _ {A S : Type 0} (way : Way A S) (s : S) (c : ℕ) (at : way .at (placeOf c) s) {u : List ℕ} {row : ℕ} (room : RootRoom (way .rows (placeOf c) (givenOf c)) (way .flags (placeOf c) (givenOf c)) row) {out : Bool} {splits : ℕ} where
+module _ {A S : Type 0} (way : Way A S) (s : S) (c : ℕ) (at : way .at (placeOf c) s) {u : List ℕ} {row : ℕ} (room : RoomFor way c row) {out : Bool} {splits : ℕ} where
   module _ (o : out ≡ true) {depths : ℕ} (is : depths ≡ depthAbove u) where
     pub out-asked : SomeRoot u row out splits → Asked way Outer u c (word row depths ∷ [])
     out-asked r = rw is (record { kind = r .kind; nodes = r .root ∷ []; state = s; ready = ready-out (r .given) way s c at room o })

@@ -10,8 +10,10 @@ use Rattle.tree.specs.Children.{cornerInside}
 use Rattle.tree.specs.Rows.{rowOf}
 use Rattle.blocks.specs.RowNumbers.{rowWord}
 use Rattle.laws.specs.Proper.{Proper}
+use Rattle.nodes.specs.State.{placeOf, givenOf}
 use Rattle.nodes.specs.Tables.{tableOf}
 use Rattle.walks.specs.Stands.{Placed, areaIn}
+use Rattle.walks.specs.Walks.{Way}
 
 pub record Rooted (k : Kind) (root : Node) : Type 0 where
   pub proper : Proper k
@@ -34,6 +36,11 @@ pub record SomeRoot (u : List ℕ) (row : ℕ) (out : Bool) (splits : ℕ) : Typ
   pub given : Given kind root u row out splits
 
 -- A root's walk may begin at any place, after any number given: there is room for its tree behind so many rows and flags.
-pub record RootRoom (rows flags row : ℕ) : Type 0 where
+pub record RootRoom (rows flags most row : ℕ) : Type 0 where
   pub forRows : 16 * rows + areaIn row ≤ 16384
-  pub forFlags : 64 * flags + 7 * areaIn row ≤ 130816
+  pub forFlags : 64 * flags + 7 * areaIn row ≤ most
+
+-- behind what a walk has read and given at a state
+module _ {A S : Type 0} (way : Way A S) where
+  abbrev pub RoomFor : ℕ → ℕ → Type 0
+  RoomFor c row = RootRoom (way .rows (placeOf c) (givenOf c)) (way .flags (placeOf c) (givenOf c)) (way .most) row

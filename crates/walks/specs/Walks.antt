@@ -13,18 +13,19 @@ use Rattle.nodes.specs.State.{refusal, placeOf, givenOf}
 use Rattle.walks.specs.Stands.{Word, AllStand}
 
 -- What is walked: what happens at a node, from a state; which states stand at a place of what is read; what is given, as it is stored, one number each;
--- and how many rows and flags a place and a count stand for.
+-- how many rows and flags a place and a count stand for; and how many flags there may be, 64 for each.
 pub record Way (A S : Type 0) : Type 1 where
   pub go : Kind → Node → S → Run A S
   pub at : ℕ → S → Type 0
   pub stored : List A → List ℕ
   pub rows : ℕ → ℕ → ℕ
   pub flags : ℕ → ℕ → ℕ
+  pub most : ℕ
 
--- room for the rows and the flags of nodes: 16 samples for each row, and 2,044 flags in all
-pub record Room (rows flags : ℕ) (ns : List Node) : Type 0 where
+-- room for the rows and the flags of nodes: 16 samples for each row, and flags up to a bound
+pub record Room (rows flags most : ℕ) (ns : List Node) : Type 0 where
   pub forRows : 16 * rows + areasOf ns ≤ 16384
-  pub forFlags : 64 * flags + flagRoom ns ≤ 130816
+  pub forFlags : 64 * flags + flagRoom ns ≤ most
 
 module _ {A S : Type 0} (way : Way A S) where
   -- the walk over nodes, from a state
@@ -33,7 +34,7 @@ module _ {A S : Type 0} (way : Way A S) where
 
   -- room for what a place and a count stand for, and for nodes
   abbrev pub RoomAt : ℕ → ℕ → List Node → Type 0
-  RoomAt place count ns = Room (way .rows place count) (way .flags place count) ns
+  RoomAt place count ns = Room (way .rows place count) (way .flags place count) (way .most) ns
 
   -- a number says how a run ends, after so many given
   unfoldable pub Says : ℕ → ℕ → End S → Type 0

@@ -1,3 +1,4 @@
+use native.Mathlib.Omega.{arith}
 use denote.Ref.{now}
 use Rattle.walks.proofs.Roots.{root-room}
 use Rattle.back.proofs.Whole.{starts-first, first-done}
@@ -10,7 +11,7 @@ root-back-requires c κs =
     let mt = c .before .before in
     let st = mt .before .before .before in
     let some = st .pre .0 in
-    (some, starts-first (now (st .args .rows)) (root-room (some .given)), mt .mark-tree .ensures, st .pre .2)
+    (some, starts-first (now (st .args .rows)) (root-room (some .given) _ (omega arith)), mt .mark-tree .ensures, st .pre .2)
 
 returns : tie.Need-returns
 returns c k root g = first-done (now (c .before .before .before .before .before .before .args .rows)) k root (c .root-back .ensures k root g)

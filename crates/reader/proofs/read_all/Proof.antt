@@ -10,7 +10,7 @@ root-walk-requires : tie.Need-root-walk-requires
 root-walk-requires c κs =
     let st = c .before .before .before in
     let some = st .pre .0 in
-    (some, root-room (some .given), st .pre .1, omega arith)
+    (some, root-room (some .given) _ (omega arith), st .pre .1, omega arith)
 
 all-rows-requires : tie.Need-all-rows-requires
 all-rows-requires c κs =
