@@ -53,7 +53,7 @@ child-deeper k n (Ternary d) ok = record { quad = omega arith; cut = λ h. (refl
 
 -- the first part of a split starts where its node does
 module _ (k : Kind) (n : Node) (d : Decision) (p : Share) (zero-from : (e : Direction) → from e p ≡ 0) where
-  start-same : (e : Direction) → corner e (child (k .limits) n d p) ≡ corner e n
+  pub start-same : (e : Direction) → corner e (child (k .limits) n d p) ≡ corner e n
   start-same e = rw (child-corner (k .limits) n d p e, zero-from e) (omega arith)
 
   pub start-there : cornerInside (k .limits) n ≡ true → cornerInside (k .limits) (child (k .limits) n d p) ≡ true

@@ -1,3 +1,4 @@
+pub mod Agrees
 pub mod Areas
 pub mod BackBounds
 pub mod BackRefusals
@@ -19,6 +20,9 @@ pub mod Edge
 pub mod Every
 pub mod EveryRow
 pub mod First
+pub mod FitRuns
+pub mod FitSteps
+pub mod Fits
 pub mod FlagAreas
 pub mod FlagRows
 pub mod Flags
@@ -50,7 +54,10 @@ pub mod Refusals
 pub mod Rights
 pub mod Runs
 pub mod SameRow
+pub mod Search
+pub mod Searching
 pub mod Shape
+pub mod Shown
 pub mod Sides
 pub mod Sizes
 pub mod Slabs

@@ -1,4 +1,5 @@
 pub mod Areas
+pub mod Begins
 pub mod CellOrder
 pub mod Counts
 pub mod Directions

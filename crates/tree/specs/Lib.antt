@@ -6,4 +6,5 @@ pub mod Rows
 pub mod Run
 pub mod Reading
 pub mod Back
+pub mod Search
 pub mod Tree
