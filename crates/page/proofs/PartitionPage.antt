@@ -16,7 +16,8 @@ use Rattle.unit.specs.Writer.{writeFlags}
 use Rattle.unit.specs.Exactly.{UnitTree, OneOf, Bytes}
 use Rattle.unit.specs.Faults.{rowsNumbers}
 use Rattle.unit.proofs.Accepts.{delivered, undelivered}
-use Rattle.unit.proofs.Decided.{not-listed, tested-decides}
+use Rattle.unit.proofs.Decided.{tested-decides}
+use Rattle.unit.proofs.Numbers.{not-listed}
 use Rattle.unit.proofs.RootTree.{root-said}
 use Rattle.unit.proofs.Roots.{root-of}
 use Rattle.unit.proofs.Sizes.{rows-most}

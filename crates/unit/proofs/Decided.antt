@@ -1,15 +1,13 @@
 -- The calls on a single unit are decided by their faults.
 use Prim.Native.Nat.{ℕ}
 use mathlib.Core.Path.{_≡_, refl, sym, ap, subst, _∙_}
-use mathlib.Core.Bool.{Bool, true, false, not, _&&_}
+use mathlib.Core.Bool.{true}
 use mathlib.Core.List.{List, [], _∷_, _++_}
 use mathlib.Core.Logic.{inl, inr}
 use native.Mathlib.Omega.{arith}
 use native.Mathlib.Decide.{ℕ-discrete}
-use borrow.Author.Tests.{eq-eqb, ne-eqb}
+use borrow.Author.Tests.{ne-eqb}
 use lib.ListN.{length}
-use lib.Dec.{eqb}
-use Rattle.sides.proofs.Bools.{clash, and-left, and-right}
 use Rattle.settings.specs.declared.Settings.{Settings}
 use Rattle.settings.specs.Units.{unitRefusal}
 use Rattle.tree.specs.Rows.{tableBytes}
@@ -22,18 +20,19 @@ use Rattle.unit.specs.Answers.{numberOf, ZeroIsAccepted, Outcome, refuse
 use Rattle.unit.specs.Luma.{kindOf, rootAt}
 use Rattle.unit.specs.Reader.{readUnit}
 use Rattle.unit.specs.Writer.{testUnit, writeFlags}
-use Rattle.unit.specs.Exactly.{UnitTree, OneOf, AcceptedOr, Bytes}
+use Rattle.unit.specs.Exactly.{UnitTree, OneOf, noTreeNumbers, AcceptedOr, Bytes}
 use Rattle.unit.specs.Faults.{ReadFault, read-unit, read-flags, read-room, RowsFault, rows-unit, rows-cut, rows-none, TestedFault, tested-rows, tested-room, TurnFault, readNumbers, rowsNumbers, turnNumbers, Decides}
 use Rattle.unit.proofs.Accepts.{deliver-short, undelivered}
 use Rattle.unit.proofs.FlagFaults.{fault-once, no-fault}
+use Rattle.unit.proofs.Numbers.{one-of-more, one-of-later, lacks, not-listed}
 use Rattle.unit.proofs.Parsed.{table-length}
 use Rattle.unit.proofs.RootTree.{root-reading}
 use Rattle.unit.proofs.Roots.{root-of}
 use Rattle.unit.proofs.ReadsExactly.{reads-exactly, unit-read, fault-number}
 use Rattle.unit.proofs.Tested.{Passed, Tested, faulty, passed, none-has, tested, table-of, fault-stops}
-use Rattle.unit.proofs.TurnsExactly.{write-stopped, write-given, turns-exactly}
+use Rattle.unit.proofs.TurnsExactly.{table-number, write-stopped, write-given, turns-exactly}
 use Rattle.unit.proofs.TreeReading.{FlagsRead, read-or-refused}
-use Rattle.unit.proofs.UnitFaults.{one-of-more, one-of-later, unitNumbers, unit-fault, unit-refused, unit-number}
+use Rattle.unit.proofs.UnitFaults.{unitNumbers, unit-fault, unit-refused, unit-number}
 
 -- a call whose refusals are its faults, and whose faults are its refusals, with a number of its list
 module _ {Lent : Type 0} (Fault : ℕ → ℕ → Type 0) (numbers : List ℕ) {answer : Answer} {lent left : Lent}
@@ -56,15 +55,6 @@ module _ {Lent : Type 0} (Fault : ℕ → ℕ → Type 0) (numbers : List ℕ) {
     accepts = (λ x number place f. let e = complete number place f .0 in let g = x .1 in never (cc), free answer refl);
     leaves = λ number place e. complete number place (sound number place e) .1;
   }
-
--- a number that is none of a list, by a test of all
-abbrev pub lacks : ℕ → List ℕ → Bool
-lacks m [] = true
-lacks m (n ∷ ns) = not (eqb n m) && lacks m ns
-
-pub not-listed : (m : ℕ) (numbers : List ℕ) → lacks m numbers ≡ true → ¬ OneOf m numbers
-not-listed m (n ∷ ns) p (inl e) = let f : not (eqb n m) ≡ false = ap not (eq-eqb n m (sym e)) in clash (and-left (not (eqb n m)) _ p) f
-not-listed m (n ∷ ns) p (inr o) = not-listed m ns (and-right (not (eqb n m)) _ p) o
 
 -- an answer that uses numbers of a list without 0 has the number 0 exactly where it accepts
 pub zero-accepts : (numbers : List ℕ) → lacks 0 numbers ≡ true → (answer : Answer) → AcceptedOr numbers answer
@@ -140,9 +130,9 @@ module _ (s : Settings) (a : ℕ) (flags buffer : List ℕ) where
 
 -- the number of a fault of rows is one of their list
 pub rows-listed : (s : Settings) (a : ℕ) {bytes : List ℕ} {number place : ℕ} → RowsFault s a bytes number place → OneOf number rowsNumbers
-rows-listed s a {number = number} (rows-unit f) = one-of-more number unitNumbers (15 ∷ 16 ∷ []) (unit-number s a f)
-rows-listed s a (rows-cut h w) = one-of-later 15 unitNumbers (15 ∷ 16 ∷ []) (inl refl)
-rows-listed s a (rows-none h w none) = one-of-later 16 unitNumbers (15 ∷ 16 ∷ []) (inr (inl refl))
+rows-listed s a {number = number} (rows-unit f) = one-of-more number unitNumbers (15 ∷ noTreeNumbers) (unit-number s a f)
+rows-listed s a (rows-cut h w) = one-of-later 15 unitNumbers (15 ∷ noTreeNumbers) (inl refl)
+rows-listed s a {number = number} (rows-none h w f) = one-of-later number unitNumbers (15 ∷ noTreeNumbers) (inr (table-number f))
 
 -- a call that tests rows, and delivers what it makes of the tree that has them
 module _ (s : Settings) (a : ℕ) (bytes : List ℕ) (small : Bytes bytes) (buffer : List ℕ)
@@ -162,7 +152,7 @@ module _ (s : Settings) (a : ℕ) (bytes : List ℕ) (small : Bytes bytes) (buff
           same-fault Wrong (tested-room (p .there) (p .tree) (table-of s a bytes small p) (d .2)) (d .0) (d .1)
 
   tested-refused : (number place : ℕ) → Wrong number place → call ≡ refused number place buffer
-  tested-refused number place (tested-rows f) = stopped number place (fault-stops s a bytes small f)
+  tested-refused number place (tested-rows f) = stopped number place (fault-stops s a bytes f)
   tested-refused number place (tested-room h t e l) = go (tested s a bytes)
     where
       go : Tested s a bytes → call ≡ refused short (length (made t)) buffer

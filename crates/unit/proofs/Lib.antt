@@ -2,6 +2,7 @@ pub mod Checked
 pub mod Roots
 pub mod Located
 pub mod Accepts
+pub mod Numbers
 pub mod Parsed
 pub mod FlagFaults
 pub mod TreeReading
@@ -12,6 +13,7 @@ pub mod Tested
 pub mod ReadsExactly
 pub mod TurnsExactly
 pub mod AcceptedTree
+pub mod TableStops
 pub mod RoundTrips
 pub mod Decided
 pub mod RowsTested

@@ -14,6 +14,7 @@ use Rattle.laws.proofs.Depths.{rows-small}
 use Rattle.laws.proofs.Runs.{gives}
 use Rattle.laws.proofs.Reading.{ReadingIsTree, reading-is-tree}
 use Rattle.laws.proofs.Turning.{TurningIsTree, turning-is-tree}
+use Rattle.laws.proofs.Searching.{SearchIsTree, search-is-tree}
 use Rattle.unit.specs.Answers.{deliver, finishEnd}
 use Rattle.unit.specs.Luma.{kindOf, rootAt}
 use Rattle.unit.specs.Writer.{testRows, writeRows}
@@ -29,6 +30,9 @@ module _ {s : Settings} {a : ℕ} (r : Root s a) where
   pub root-turning : TurningIsTree (kindOf s) (rootAt s a)
   root-turning = turning-is-tree (r .valid) (r .good) (r .here) (r .fits)
 
+  pub root-search : SearchIsTree (kindOf s) (rootAt s a)
+  root-search = search-is-tree (r .valid) (r .good) (r .here) (r .fits)
+
   module _ (t : UnitTree s a) where
     -- the bytes of a tree's rows lose nothing, so they say these rows
     pub root-small : Every SmallRow (rowsOf t)
@@ -42,7 +46,7 @@ module _ {s : Settings} {a : ℕ} (r : Root s a) where
     unfolding testRows
     root-tested =
         let e = table-length (rowsOf t) in
-        rw (eq-eqb (length (tableBytes (rowsOf t)) % 8) 0 (omega arith)) (rw root-said (tree-turned root-turning t))
+        rw (eq-eqb (length (tableBytes (rowsOf t)) % 8) 0 (omega arith)) (rw root-said (tree-turned root-turning root-search t))
 
     -- and are turned back into these
     pub root-turns : (buffer : List ℕ) → writeRows (kindOf s) (rootAt s a) (tableBytes (rowsOf t)) buffer

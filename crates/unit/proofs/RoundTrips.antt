@@ -1,5 +1,5 @@
--- There and back: flags that are accepted come back from their rows, rows that are accepted come back from their flags, and whole rows are refused with 16
--- exactly where no flags give them.
+-- There and back: flags that are accepted come back from their rows, rows that are accepted come back from their flags, and whole rows are refused with 27,
+-- 28 or 16 exactly where no flags give them.
 use Prim.Native.Nat.{ℕ, _*_, _/_, _%_, _≤_}
 use mathlib.Core.Path.{_≡_, sym, ap, subst, _∙_}
 use mathlib.Core.List.{List}
@@ -13,11 +13,11 @@ use Rattle.settings.specs.Units.{unitRefusal}
 use Rattle.tree.specs.Rows.{tableBytes}
 use Rattle.tree.specs.Tree.{flagsOf, rowsOf}
 use Rattle.laws.proofs.Tests.{never}
-use Rattle.unit.specs.declared.Answer.the-variants.{Accepted, Refused}
-use Rattle.unit.specs.Answers.{accepted}
+use Rattle.unit.specs.declared.Answer.the-variants.{Accepted}
+use Rattle.unit.specs.Answers.{numberOf, accepted}
 use Rattle.unit.specs.Reader.{readUnit}
 use Rattle.unit.specs.Writer.{writeFlags}
-use Rattle.unit.specs.Exactly.{UnitTree, Bytes}
+use Rattle.unit.specs.Exactly.{UnitTree, OneOf, noTreeNumbers, Bytes}
 use Rattle.unit.specs.Demand2.{Given, Demand2}
 use Rattle.unit.proofs.Accepts.{deliver-all, delivered, met-none}
 use Rattle.unit.proofs.Roots.{root-of}
@@ -73,7 +73,7 @@ module _ (s : Settings) (a : ℕ) where
       subst (λ x. writeFlags s a x buffer .answer ≡ Accepted m → length x ≤ length lent → readUnit s a (take m (writeFlags s a x buffer .buffer)) lent ≡ accepted (length x / 8) x lent)
       (t .1) (tree-rows h (t .0) buffer m lent) e
 
-  -- ---- whole rows are refused with 16 exactly where no flags give them
+  -- ---- whole rows are refused exactly where no flags give them
 
   -- a tree's flags give its table, read into a buffer as long as it
   gives : unitRefusal s a ≡ 0 → (t : UnitTree s a) → Given s a (tableBytes (rowsOf t))
@@ -90,7 +90,7 @@ module _ (s : Settings) (a : ℕ) where
       }
 
   pub refused-exactly : (bytes : List ℕ) → Bytes bytes → length bytes % 8 ≡ 0 → unitRefusal s a ≡ 0 → (buffer : List ℕ)
-      → (writeFlags s a bytes buffer .answer ≡ Refused 16 0) ↔ ¬ Given s a bytes
+      → OneOf (numberOf (writeFlags s a bytes buffer .answer)) noTreeNumbers ↔ ¬ Given s a bytes
   refused-exactly bytes small whole h buffer =
       let exact = turns-exactly s a h .refused bytes small whole buffer in (
         λ n g. let x = unit-accepted h (g .flags) (g .buffer) (g .count) (g .accepted) in exact .0 n (x .tree) (sym (x .bytes) ∙ g .rows),

@@ -8,7 +8,6 @@ use Rattle.laws.proofs.Tests.{never}
 use Rattle.unit.specs.declared.Answer.the-variants.{Refused}
 use Rattle.unit.specs.Answers.{answerOf}
 use Rattle.unit.specs.Writer.{testUnit}
-use Rattle.unit.specs.Exactly.{Bytes}
 use Rattle.unit.specs.Faults.{RowsFault, rowsNumbers}
 use Rattle.unit.specs.RowsTested.{RowsTested}
 use Rattle.unit.proofs.Accepts.{answer-stops, answer-goes}
@@ -31,14 +30,13 @@ module _ (s : Settings) (a : ℕ) (bytes : List ℕ) where
           same-fault (RowsFault s a bytes) f x y
       go (passed p) = let g = ap (λ r. r .end) (p .gives-flags) in let h = there in never (cc)
 
-  module _ (small : Bytes bytes) where
-    refused-for : (number place : ℕ) → RowsFault s a bytes number place
-        → (answerOf (testUnit s a bytes) ≡ Refused number place) × (_≡_ {A = Unit {0}} tt tt)
-    refused-for number place f = (rw (fault-stops s a bytes small f), refl)
+  refused-for : (number place : ℕ) → RowsFault s a bytes number place
+      → (answerOf (testUnit s a bytes) ≡ Refused number place) × (_≡_ {A = Unit {0}} tt tt)
+  refused-for number place f = (rw (fault-stops s a bytes f), refl)
 
 pub rows-tested : RowsTested
 rows-tested s a bytes small = record {
-  decided = decides (RowsFault s a bytes) rowsNumbers (fault-of s a bytes) (refused-for s a bytes small) (λ number place f. rows-listed s a f);
+  decided = decides (RowsFault s a bytes) rowsNumbers (fault-of s a bytes) (refused-for s a bytes) (λ number place f. rows-listed s a f);
   tests = λ h t e. rw (← e, tree-tested s a h t);
   counts = λ m e.
       let p = passes s a bytes e in

@@ -20,13 +20,15 @@ use Rattle.unit.specs.declared.Answer.the-variants.{Accepted, Refused}
 use Rattle.unit.specs.Luma.{rootAt}
 use Rattle.unit.specs.Reader.{readUnit}
 use Rattle.unit.specs.Writer.{writeFlags}
-use Rattle.unit.specs.Exactly.{UnitTree, Bytes}
+use Rattle.unit.specs.Exactly.{UnitTree, noTreeNumbers, Bytes}
 use Rattle.unit.specs.Bounds.{mostFlags}
 use Rattle.unit.specs.Faults.{TurnFault, rows-unit, rows-cut, rows-none, tested-rows, tested-room}
 use Rattle.unit.proofs.Decided.{turning-decides}
 use Rattle.unit.proofs.Roots.{root-of}
 use Rattle.unit.proofs.ReadsExactly.{reads-exactly}
 use Rattle.unit.proofs.Accepts.{delivered}
+use Rattle.unit.proofs.Numbers.{not-listed}
+use Rattle.unit.proofs.TurnsExactly.{table-number}
 use Rattle.unit.proofs.UnitFaults.{unit-most}
 
 module _ (s : Settings) (a : ℕ) (h : unitRefusal s a ≡ 0) where
@@ -77,7 +79,7 @@ module _ (s : Settings) (a : ℕ) where
       → Short table room place
   fault-short (tested-rows (rows-unit f)) e = let m = unit-most s a f in absurd (omega arith)
   fault-short (tested-rows (rows-cut h c)) e = absurd (omega arith)
-  fault-short (tested-rows (rows-none h w n)) e = absurd (omega arith)
+  fault-short (tested-rows (rows-none h w f)) e = absurd (not-listed 17 noTreeNumbers refl (rw e at (table-number f)))
   fault-short (tested-room h t f l) e = record { there = h; tree = t; rows = f; needs = refl; lacks = l }
 
   pub short-tree : (table : List ℕ) → Bytes table → (buffer : List ℕ) (place : ℕ)

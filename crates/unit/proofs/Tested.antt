@@ -12,19 +12,21 @@ use Rattle.settings.specs.Units.{unitRefusal}
 use Rattle.tree.specs.Rows.{tableBytes, rowsIn}
 use Rattle.tree.specs.Run.{stops, refuse}
 use Rattle.tree.specs.Tree.{flagsOf, rowsOf}
+use Rattle.laws.specs.Begins.{HasRows}
 use Rattle.laws.proofs.Runs.{gives}
 use Rattle.laws.proofs.Tests.{never}
 use Rattle.laws.proofs.Turning.{TurningIsTree}
+use Rattle.laws.proofs.Searching.{SearchIsTree}
 use Rattle.unit.specs.declared.Answer.the-variants.{Accepted}
 use Rattle.unit.specs.Answers.{answerOf}
 use Rattle.unit.specs.Luma.{kindOf, rootAt}
 use Rattle.unit.specs.Writer.{flagsFrom, testRows, testUnit}
 use Rattle.unit.specs.Exactly.{UnitTree, Bytes}
-use Rattle.unit.specs.Faults.{RowsFault, rows-unit, rows-cut, rows-none}
+use Rattle.unit.specs.Faults.{TableFault, RowsFault, rows-unit, rows-cut, rows-none}
 use Rattle.unit.proofs.Roots.{root-of}
-use Rattle.unit.proofs.RootTree.{root-turning, root-tested}
+use Rattle.unit.proofs.RootTree.{root-turning, root-search, root-tested}
 use Rattle.unit.proofs.Parsed.{bytes-back}
-use Rattle.unit.proofs.TreeTurning.{RowsTurned, tree-turned, turned-or-refused}
+use Rattle.unit.proofs.TreeTurning.{RowsTurned, tree-turned, fault-turned, turned-or-refused}
 use Rattle.unit.proofs.UnitFaults.{unit-fault, unit-refused}
 
 -- whole rows of a unit that is there, and the tree that has them
@@ -51,6 +53,9 @@ module _ (s : Settings) (a : ℕ) where
     turning : TurningIsTree (kindOf s) (rootAt s a)
     turning = root-turning (root-of s a h)
 
+    searching : SearchIsTree (kindOf s) (rootAt s a)
+    searching = root-search (root-of s a h)
+
     pub unit-tested : (bytes : List ℕ) → testUnit s a bytes ≡ testRows (kindOf s) (rootAt s a) bytes
     unfolding testUnit
     unit-tested bytes = rw (eq-eqb (unitRefusal s a) 0 h)
@@ -76,6 +81,15 @@ module _ (s : Settings) (a : ℕ) where
         let g : testUnit s a bytes .end ≡ gives (flagsOf t) [] .end = ap (λ r. r .end) (rw e at (tree-tested h t)) in
         never (cc)
 
+    -- whole rows, of a tree and with a fault
+    pub has-tested : unitRefusal s a ≡ 0 → length bytes % 8 ≡ 0 → (t : HasRows (kindOf s) (rootAt s a) (rowsIn bytes))
+        → testUnit s a bytes ≡ gives (flagsOf (t .0)) []
+    has-tested h w t = whole-tested h bytes w ∙ rw (← (t .1)) (tree-turned (turning h) (searching h) (t .0))
+
+    fault-tested : (h : unitRefusal s a ≡ 0) → length bytes % 8 ≡ 0 → {number place : ℕ}
+        → TableFault (kindOf s) (rootAt s a) (rowsIn bytes) number place → testUnit s a bytes .end ≡ stops number place
+    fault-tested h w f = ap (λ r. r .end) (whole-tested h bytes w) ∙ fault-turned (turning h) (searching h) (rowsIn bytes) f
+
     whole-rows : unitRefusal s a ≡ 0 → length bytes % 8 ≡ 0 → RowsTurned (kindOf s) (rootAt s a) (rowsIn bytes)
         → Tested s a bytes
     whole-rows h w (inl t) = passed (record {
@@ -83,17 +97,15 @@ module _ (s : Settings) (a : ℕ) where
       whole = w;
       tree = t .0;
       rows = t .1;
-      gives-flags = whole-tested h bytes w ∙ rw (← (t .1)) (tree-turned (turning h) (t .0));
+      gives-flags = has-tested h w t;
     })
-    whole-rows h w (inr f) =
-        let e = ap (λ r. r .end) (whole-tested h bytes w) ∙ f in
-        faulty (rows-none h w (none-has h e)) e
+    whole-rows h w (inr f) = faulty (rows-none h w (f .2)) (fault-tested h w (f .2))
 
     pub tested : Tested s a bytes
     tested = go (ℕ-discrete (unitRefusal s a) 0)
       where
         there : unitRefusal s a ≡ 0 → Dec (length bytes % 8 ≡ 0) → Tested s a bytes
-        there h (yes w) = whole-rows h w (turned-or-refused (turning h) (rowsIn bytes))
+        there h (yes w) = whole-rows h w (turned-or-refused (turning h) (searching h) (rowsIn bytes))
         there h (no w) = faulty (rows-cut h w) (ap (λ r. r .end) (cut-tested h bytes w))
 
         go : Dec (unitRefusal s a ≡ 0) → Tested s a bytes
@@ -109,21 +121,16 @@ module _ (s : Settings) (a : ℕ) where
         go (faulty f w) = let g = rw w at e in never (cc)
         go (passed p) = p
 
-    module _ (small : Bytes bytes) where
-      -- bytes say the table of the tree that has their rows
-      pub table-of : (p : Passed s a bytes) → tableBytes (rowsOf (p .tree)) ≡ bytes
-      table-of p = ap tableBytes (p .rows) ∙ bytes-back bytes small (p .whole)
+    -- a fault stops the test
+    pub fault-stops : {number place : ℕ} → RowsFault s a bytes number place → testUnit s a bytes .end ≡ stops number place
+    fault-stops (rows-unit f) =
+        let u = unit-refused s a f in
+        let e = u .0 in
+        let l = u .1 in
+        ap (λ r. r .end) (untested (λ z. omega arith) bytes) ∙ rw (u .0)
+    fault-stops (rows-cut h w) = ap (λ r. r .end) (cut-tested h bytes w)
+    fault-stops (rows-none h w f) = fault-tested h w f
 
-      -- a fault stops the test
-      pub fault-stops : {number place : ℕ} → RowsFault s a bytes number place → testUnit s a bytes .end ≡ stops number place
-      fault-stops (rows-unit f) =
-          let u = unit-refused s a f in
-          let e = u .0 in
-          let l = u .1 in
-          ap (λ r. r .end) (untested (λ z. omega arith) bytes) ∙ rw (u .0)
-      fault-stops (rows-cut h w) = ap (λ r. r .end) (cut-tested h bytes w)
-      fault-stops (rows-none h w none) = go (turned-or-refused (turning h) (rowsIn bytes))
-        where
-          go : RowsTurned (kindOf s) (rootAt s a) (rowsIn bytes) → testUnit s a bytes .end ≡ stops 16 0
-          go (inl t) = absurd (none (t .0) (ap tableBytes (t .1) ∙ bytes-back bytes small w))
-          go (inr f) = ap (λ r. r .end) (whole-tested h bytes w) ∙ f
+    -- bytes say the table of the tree that has their rows
+    pub table-of : Bytes bytes → (p : Passed s a bytes) → tableBytes (rowsOf (p .tree)) ≡ bytes
+    table-of small p = ap tableBytes (p .rows) ∙ bytes-back bytes small (p .whole)

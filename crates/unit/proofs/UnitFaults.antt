@@ -14,16 +14,7 @@ use Rattle.settings.specs.Units.{unitCount, unitRefusal}
 use Rattle.settings.proofs.Faults.{settings-fault, settings-refused, fault-range}
 use Rattle.unit.specs.Exactly.{OneOf}
 use Rattle.unit.specs.Faults.{UnitFault, bad-settings, no-unit}
-
--- ---- numbers of lists
-
-pub one-of-more : (n : ℕ) (first rest : List ℕ) → OneOf n first → OneOf n (first ++ rest)
-one-of-more n (m ∷ first) rest (inl e) = inl e
-one-of-more n (m ∷ first) rest (inr o) = inr (one-of-more n first rest o)
-
-pub one-of-later : (n : ℕ) (first rest : List ℕ) → OneOf n rest → OneOf n (first ++ rest)
-one-of-later n [] rest o = o
-one-of-later n (m ∷ first) rest o = inr (one-of-later n first rest o)
+use Rattle.unit.proofs.Numbers.{one-of-more, one-of-later}
 
 abbrev settingsNumbers : List ℕ
 settingsNumbers = 1 ∷ 2 ∷ 3 ∷ 4 ∷ 5 ∷ 6 ∷ 7 ∷ 8 ∷ 9 ∷ []

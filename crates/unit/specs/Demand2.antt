@@ -7,10 +7,11 @@ use mathlib.Core.Logic.{_↔_}
 use lib.ListN.{length, take}
 use Rattle.settings.specs.declared.Settings.{Settings}
 use Rattle.settings.specs.Units.{unitRefusal}
-use Rattle.unit.specs.declared.Answer.the-variants.{Accepted, Refused}
+use Rattle.unit.specs.declared.Answer.the-variants.{Accepted}
+use Rattle.unit.specs.Answers.{numberOf}
 use Rattle.unit.specs.Reader.{readUnit}
 use Rattle.unit.specs.Writer.{writeFlags}
-use Rattle.unit.specs.Exactly.{Bytes, ReadsExactly, TurnsExactly}
+use Rattle.unit.specs.Exactly.{OneOf, noTreeNumbers, Bytes, ReadsExactly, TurnsExactly}
 
 -- some flags give these rows: read into some buffer they are accepted, and the buffer then begins with the rows
 pub record Given (s : Settings) (a : ℕ) (bytes : List ℕ) : Type 0 where
@@ -27,7 +28,7 @@ pub record Exact (s : Settings) (a : ℕ) : Type 0 where
   pub turns : TurnsExactly s a
   -- whole rows are refused exactly when no flags give them
   pub refused : (bytes : List ℕ) → Bytes bytes → length bytes % 8 ≡ 0 → (buffer : List ℕ)
-      → (writeFlags s a bytes buffer .answer ≡ Refused 16 0) ↔ ¬ Given s a bytes
+      → OneOf (numberOf (writeFlags s a bytes buffer .answer)) noTreeNumbers ↔ ¬ Given s a bytes
 
 abbrev pub Demand2 : Type 0
 Demand2 = (s : Settings) (a : ℕ) → unitRefusal s a ≡ 0 → Exact s a

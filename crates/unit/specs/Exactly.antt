@@ -9,7 +9,7 @@ use Rattle.tree.specs.Rows.{tableBytes}
 use Rattle.tree.specs.Tree.{Tree, flagsOf, rowsOf}
 use Rattle.unit.specs.declared.Answer.{Answer}
 use Rattle.unit.specs.declared.Answer.the-variants.{Accepted, Refused}
-use Rattle.unit.specs.Answers.{deliver}
+use Rattle.unit.specs.Answers.{numberOf, deliver}
 use Rattle.unit.specs.Luma.{kindOf, rootAt}
 use Rattle.unit.specs.Reader.{readUnit}
 use Rattle.unit.specs.Writer.{writeFlags}
@@ -22,6 +22,10 @@ UnitTree s a = Tree (kindOf s) (rootAt s a)
 abbrev pub OneOf : ℕ → List ℕ → Type 0
 OneOf n [] = ⊥
 OneOf n (m ∷ ms) = (n ≡ m) ⊎ OneOf n ms
+
+-- the numbers of a table of whole rows that no tree has
+abbrev pub noTreeNumbers : List ℕ
+noTreeNumbers = 27 ∷ 28 ∷ 16 ∷ []
 
 -- an answer that accepts, or refuses with one of these numbers; 0 is in none of the lists used, so no refusal has the
 -- number of an accepted call
@@ -45,8 +49,8 @@ pub record ReadsExactly (s : Settings) (a : ℕ) : Type 0 where
   pub numbers : (flags buffer : List ℕ) → AcceptedOr (11 ∷ 12 ∷ 13 ∷ 14 ∷ []) (readUnit s a flags buffer .answer)
 
 -- Its rows are turned back as follows: the bytes of a tree's rows give its flags, no other bytes are accepted, whole rows
--- are refused with 16 exactly where no tree has them, rows belong to one tree at most, and what is not accepted is
--- refused with 15 to 17.
+-- are refused with 27, 28 or 16 exactly where no tree has them, rows belong to one tree at most, and what is not accepted
+-- is refused with 15, with one of these or with 17. Which one, and its place: `TableStops` (TableStops.antt).
 pub record TurnsExactly (s : Settings) (a : ℕ) : Type 0 where
   pub turns : (t : UnitTree s a) (buffer : List ℕ)
       → writeFlags s a (tableBytes (rowsOf t)) buffer ≡ deliver 17 (length (flagsOf t)) (flagsOf t) buffer
@@ -54,6 +58,6 @@ pub record TurnsExactly (s : Settings) (a : ℕ) : Type 0 where
       → writeFlags s a bytes buffer .answer ≡ Accepted m
       → (t : UnitTree s a) × (tableBytes (rowsOf t) ≡ bytes) × (length (flagsOf t) ≡ m)
   pub refused : (bytes : List ℕ) → Bytes bytes → length bytes % 8 ≡ 0 → (buffer : List ℕ)
-      → (writeFlags s a bytes buffer .answer ≡ Refused 16 0) ↔ ((t : UnitTree s a) → ¬ (tableBytes (rowsOf t) ≡ bytes))
+      → OneOf (numberOf (writeFlags s a bytes buffer .answer)) noTreeNumbers ↔ ((t : UnitTree s a) → ¬ (tableBytes (rowsOf t) ≡ bytes))
   pub unique : (t u : UnitTree s a) → tableBytes (rowsOf t) ≡ tableBytes (rowsOf u) → t ≡ u
-  pub numbers : (bytes buffer : List ℕ) → AcceptedOr (15 ∷ 16 ∷ 17 ∷ []) (writeFlags s a bytes buffer .answer)
+  pub numbers : (bytes buffer : List ℕ) → AcceptedOr (15 ∷ 27 ∷ 28 ∷ 16 ∷ 17 ∷ []) (writeFlags s a bytes buffer .answer)

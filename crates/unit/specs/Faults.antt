@@ -11,8 +11,9 @@ use Rattle.settings.specs.Faults.{SettingsFault}
 use Rattle.settings.specs.Units.{unitCount, unitRefusal}
 use Rattle.tree.specs.declared.Node.{Node}
 use Rattle.tree.specs.Kind.{Kind}
-use Rattle.tree.specs.Rows.{tableBytes}
+use Rattle.tree.specs.Rows.{Row, tableBytes, rowsIn}
 use Rattle.tree.specs.Tree.{Tree, flagsOf, rowsOf}
+use Rattle.laws.specs.Begins.{GoesOn, GoesPast, LeavesAt}
 use Rattle.unit.specs.declared.Answer.{Answer}
 use Rattle.unit.specs.declared.Answer.the-variants.{Accepted, Refused}
 use Rattle.unit.specs.Luma.{kindOf, rootAt}
@@ -52,14 +53,24 @@ pub data ReadFault (s : Settings) (a : ℕ) (flags : List ℕ) (room : ℕ) : �
   read-room : unitRefusal s a ≡ 0 → (t : UnitTree s a) → flagsOf t ≡ flags → room < 8 * length (rowsOf t)
       → ReadFault s a flags room 14 (length (rowsOf t))
 
--- rows that are tested for the way back: 1 to 10, 15 and 16
+-- ---- rows, by the coding trees of a root
+
+pub data TableFault (k : Kind) (root : Node) (rows : List Row) : ℕ → ℕ → Type 0 where
+  -- "All rows are the beginning of some tree's longer table; its place the row count"
+  ends-early : GoesOn k root rows → TableFault k root rows 27 (length rows)
+  -- "The rows begin with a whole table and go on; its place that table's row count"
+  goes-past : (g : GoesPast k root rows) → TableFault k root rows 28 (length (rowsOf (g .0)))
+  -- "16 remains for all other tables without a tree"; its place "the longest number of leading rows with which some
+  -- tree's table for this unit begins"
+  leaves-trees : {p : ℕ} → LeavesAt k root rows p → TableFault k root rows 16 p
+
+-- rows that are tested for the way back: 1 to 10, 15, then 27, 28 and 16
 pub data RowsFault (s : Settings) (a : ℕ) (bytes : List ℕ) : ℕ → ℕ → Type 0 where
   rows-unit : {number : ℕ} → UnitFault s a number → RowsFault s a bytes number 0
   -- "Row bytes no multiple of 8; place: whole rows"
   rows-cut : unitRefusal s a ≡ 0 → ¬ (length bytes % 8 ≡ 0) → RowsFault s a bytes 15 (length bytes / 8)
-  -- "No flags give these rows": they are those of no tree
-  rows-none : unitRefusal s a ≡ 0 → length bytes % 8 ≡ 0 → ((t : UnitTree s a) → ¬ (tableBytes (rowsOf t) ≡ bytes))
-      → RowsFault s a bytes 16 0
+  rows-none : {number place : ℕ} → unitRefusal s a ≡ 0 → length bytes % 8 ≡ 0
+      → TableFault (kindOf s) (rootAt s a) (rowsIn bytes) number place → RowsFault s a bytes number place
 
 -- a call that tests rows and then delivers what it makes of their tree: refused with a number of its own where the lent
 -- buffer is shorter than that, the place the bytes needed
@@ -75,13 +86,13 @@ TurnFault s a bytes room = TestedFault s a bytes 17 flagsOf room
 
 -- ---- a call that its faults decide
 
--- document 01: "A single unit's reader uses 1 to 14, the way back 1 to 10 and 15 to 17"
+-- document 01: "A single unit's reader uses 1 to 14, the way back 1 to 10 and 15 to 17", and document 02's 27 and 28
 abbrev pub readNumbers : List ℕ
 readNumbers = 1 ∷ 2 ∷ 3 ∷ 4 ∷ 5 ∷ 6 ∷ 7 ∷ 8 ∷ 9 ∷ 10 ∷ 11 ∷ 12 ∷ 13 ∷ 14 ∷ []
 
 -- the test of rows uses those of the way back but 17
 abbrev pub rowsNumbers : List ℕ
-rowsNumbers = 1 ∷ 2 ∷ 3 ∷ 4 ∷ 5 ∷ 6 ∷ 7 ∷ 8 ∷ 9 ∷ 10 ∷ 15 ∷ 16 ∷ []
+rowsNumbers = 1 ∷ 2 ∷ 3 ∷ 4 ∷ 5 ∷ 6 ∷ 7 ∷ 8 ∷ 9 ∷ 10 ∷ 15 ∷ 27 ∷ 28 ∷ 16 ∷ []
 
 abbrev pub turnNumbers : List ℕ
 turnNumbers = rowsNumbers ++ (17 ∷ [])

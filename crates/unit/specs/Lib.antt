@@ -10,3 +10,4 @@ pub mod Bounds
 pub mod Edge
 pub mod FlagBuffer
 pub mod RowsTested
+pub mod TableStops

@@ -1,6 +1,6 @@
--- The way back of a single unit: its test, document 01's refusals 1 to 10, 15 and 16; then refusal 17, the number of flags, and
--- the flag buffer afterwards.
-use Prim.Native.Nat.{ℕ, _/_, _%_}
+-- The way back of a single unit: its test, document 01's refusals 1 to 10 and 15, and 27, 28 and 16 of document 02's R-5; then refusal 17, the number of
+-- flags, and the flag buffer afterwards.
+use Prim.Native.Nat.{ℕ, zero, suc, _-_, _/_, _%_}
 use mathlib.Core.Bool.{cond}
 use mathlib.Core.List.{List, [], _∷_}
 use lib.ListN.{length}
@@ -12,25 +12,28 @@ use Rattle.tree.specs.Kind.{Kind}
 use Rattle.tree.specs.Rows.{Row, rowsIn}
 use Rattle.tree.specs.Run.{Run, End, goes, stops, refuse}
 use Rattle.tree.specs.Back.{backNode}
+use Rattle.tree.specs.Search.{Fit, whole, stuck, fitNode}
 use Rattle.unit.specs.Answers.{Outcome, finish}
 use Rattle.unit.specs.Luma.{kindOf, rootAt}
 
--- 16 too where rows are left
-unfoldable pub noneLeft : End (List Row) → End (List Row)
-noneLeft (stops number place) = stops number place
-noneLeft (goes []) = goes []
-noneLeft (goes (r ∷ rows)) = stops 16 0
+-- So many rows, by how far they go along the trees of a root: those of a tree; 28, the rows of a tree and more; 27, the beginning of a tree's longer table;
+-- else 16. The place is the number of leading rows that a tree's table begins with, for 28 those of the whole table.
+unfoldable pub fitEnd : ℕ → Fit → End (List Row)
+fitEnd count (whole []) = goes []
+fitEnd count (whole (r ∷ rest)) = stops 28 (count - suc (length rest))
+fitEnd count (stuck zero) = stops 27 count
+fitEnd count (stuck (suc left)) = stops 16 (count - suc left)
 
--- the flags that give exactly these rows, or refusal 16
+-- the flags that give exactly these rows, or refusal 27, 28 or 16
 unfoldable pub flagsFrom : Kind → Node → List Row → Run ℕ (List Row)
-flagsFrom k root rows = record { given = backNode k root rows .given; end = noneLeft (backNode k root rows .end) }
+flagsFrom k root rows = record { given = backNode k root rows .given; end = fitEnd (length rows) (fitNode k root rows) }
 
--- the test of a table: 15 where its bytes are no multiple of 8, the place its whole rows; then 16, or the flags of its rows
+-- the test of a table: 15 where its bytes are no multiple of 8, the place its whole rows; then 27, 28 or 16, or the flags of its rows
 unfoldable pub testRows : Kind → Node → List ℕ → Run ℕ (List Row)
 testRows k root bytes =
     cond (eqb (length bytes % 8) 0) (flagsFrom k root (rowsIn bytes)) (refuse 15 (length bytes / 8))
 
--- the test of a unit's table: refusals 1 to 10, 15 and 16, or the flags that give exactly its rows
+-- the test of a unit's table: refusals 1 to 10, 15, 27, 28 and 16, or the flags that give exactly its rows
 unfoldable pub testUnit : Settings → ℕ → List ℕ → Run ℕ (List Row)
 testUnit s address bytes =
     cond (eqb (unitRefusal s address) 0) (testRows (kindOf s) (rootAt s address) bytes) (refuse (unitRefusal s address) 0)
@@ -39,10 +42,10 @@ testUnit s address bytes =
 abbrev pub flagsInto : List ℕ → Run ℕ (List Row) → Outcome
 flagsInto buffer test = finish (λ flags. flags) 17 test buffer
 
--- the way back of a table, refusals 15 to 17
+-- the way back of a table, refusals 15, 27, 28, 16 and 17
 unfoldable pub writeRows : Kind → Node → List ℕ → List ℕ → Outcome
 writeRows k root bytes buffer = flagsInto buffer (testRows k root bytes)
 
--- the way back of a unit, refusals 1 to 10 and 15 to 17
+-- the way back of a unit, refusals 1 to 10, 15, 27, 28, 16 and 17
 unfoldable pub writeFlags : Settings → ℕ → List ℕ → List ℕ → Outcome
 writeFlags s address bytes buffer = flagsInto buffer (testUnit s address bytes)
