@@ -32,10 +32,10 @@ use Rattle.walks.proofs.Open.{inside-rights, out-rights}
 use Rattle.walks.proofs.RowFields.{fits, row-says, width-says, height-says, area-says}
 use Rattle.marks.specs.Table.{rowsLeft, wordAt, Eight}
 use Rattle.marks.specs.Marks.{Begins, isCut, Divided, Read}
-use Rattle.back.specs.Walking.{}
 use Rattle.back.proofs.Decisions.{own-next, inside-next, out-next}
+use Rattle.marks.proofs.NextRows.{next-row}
 use Rattle.marks.proofs.RowWords.{same-word, other-word, word-qt}
-use Rattle.back.proofs.Turned.{Seen, At, Sees, next-row}
+use Rattle.back.proofs.Turned.{Seen, At, Sees}
 
 -- ---- cuts where M is 0
 

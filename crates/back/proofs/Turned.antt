@@ -23,26 +23,10 @@ use Rattle.walks.specs.Walks.{walkOver, Done, Walked}
 use Rattle.walks.proofs.One.{Stored, Case, each-case, one-refused, one-done}
 use Rattle.walks.proofs.RowFields.{shallow}
 use Rattle.walks.proofs.Split.{Turn}
-use Rattle.marks.specs.Table.{rowsLeft}
+use Rattle.marks.specs.Table.{rowsLeft, Left}
 use Rattle.marks.specs.Marks.{cellsBefore}
-use Rattle.back.specs.Walking.{Left, backWay}
-use Rattle.marks.proofs.NextRows.{from-next, from-end}
-
--- ---- the rows that are left at a place
-
-module _ {bytes : List ℕ} {at : ℕ} {rows : List Row} (l : Left bytes at rows) where
-  pub no-row : length bytes ≤ at → rows ≡ []
-  no-row h = l .from ∙ from-end bytes (at / 8) (omega arith)
-
-  module _ (more : at + 8 ≤ length bytes) where
-    pub next-row : rows ≡ rowAt bytes at ∷ rowsLeft bytes (at / 8 + 1)
-    next-row =
-        let f = l .first in
-        let e : at / 8 * 8 ≡ at = omega arith in
-        l .from ∙ from-next bytes (at / 8) (omega arith) ∙ ap (λ (i : ℕ). rowAt bytes i ∷ rowsLeft bytes (at / 8 + 1)) e
-
-    after-row : Left bytes (at + 8) (rowsLeft bytes (at / 8 + 1))
-    after-row = let f = l .first in let e : at / 8 + 1 ≡ (at + 8) / 8 = omega arith in record { from = ap (rowsLeft bytes) e; first = omega arith; within = more }
+use Rattle.back.specs.Walking.{backWay}
+use Rattle.marks.proofs.NextRows.{no-row, next-row, after-row}
 
 -- ---- one node
 

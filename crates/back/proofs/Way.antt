@@ -16,8 +16,9 @@ use Rattle.walks.specs.Stands.{Placed}
 use Rattle.walks.specs.Walks.{RoomAt, walkOver}
 use Rattle.walks.proofs.Lawful.{Step, Lawful}
 use Rattle.walks.proofs.One.{here-or-gone}
+use Rattle.marks.specs.Table.{Left}
 use Rattle.marks.specs.Marks.{cellsBefore}
-use Rattle.back.specs.Walking.{Left, backWay}
+use Rattle.back.specs.Walking.{backWay}
 use Rattle.marks.proofs.NextRows.{cells-on}
 
 -- ---- rows that are taken

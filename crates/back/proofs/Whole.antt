@@ -11,8 +11,8 @@ use Rattle.tree.specs.Back.{backNode}
 use Rattle.nodes.specs.State.{placeOf}
 use Rattle.walks.specs.Rooted.{RoomFor}
 use Rattle.walks.specs.Walks.{Done}
-use Rattle.marks.specs.Table.{rowsLeft}
-use Rattle.back.specs.Walking.{Left, backWay, Starts}
+use Rattle.marks.specs.Table.{rowsLeft, Left}
+use Rattle.back.specs.Walking.{backWay, Starts}
 
 -- its rows are those that are left
 pub starts-left : {bytes : List ℕ} {c row : ℕ} → Starts bytes c row → Left bytes (placeOf c) (rowsLeft bytes (placeOf c / 8))

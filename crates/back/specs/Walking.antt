@@ -10,14 +10,8 @@ use Rattle.tree.specs.Back.{backNode}
 use Rattle.nodes.specs.State.{placeOf}
 use Rattle.walks.specs.Rooted.{RoomFor}
 use Rattle.walks.specs.Walks.{Way}
-use Rattle.marks.specs.Table.{rowsLeft, wordAt}
+use Rattle.marks.specs.Table.{Left, wordAt}
 use Rattle.marks.specs.Marks.{cellsBefore}
-
--- these rows are left at a place of a table, which is the first byte of a row
-pub record Left (bytes : List ℕ) (at : ℕ) (rows : List Row) : Type 0 where
-  pub from : rows ≡ rowsLeft bytes (at / 8)
-  pub first : at % 8 ≡ 0
-  pub within : at ≤ length bytes
 
 -- from the rows that are left to flags, a byte for each, 2,044 at most; a place stands for the cells of the rows before it
 abbrev pub backWay : List ℕ → Way ℕ (List Row)

@@ -1,8 +1,8 @@
 -- What the next row leaves of the search at a node: where it cannot be the first row of a tree, or of a decision's
 -- trees, nothing is taken; so only the decisions that it shows by its depths need be tried.
 use Prim.Native.Nat.{ℕ, suc, _+_, _-_, _≤_, _<_}
-use mathlib.Core.Path.{_≡_, refl, ap, _∙_}
-use mathlib.Core.Bool.{Bool, true, false, cond}
+use mathlib.Core.Path.{_≡_, refl, sym, ap, _∙_}
+use mathlib.Core.Bool.{Bool, true, false, cond, _&&_}
 use mathlib.Core.List.{List, [], _∷_}
 use lib.ListN.{length}
 use lib.Dec.{ltb, eqb}
@@ -16,20 +16,23 @@ use Rattle.tree.specs.declared.Direction.the-variants.{Horizontal, Vertical}
 use Rattle.tree.specs.declared.Decision.{Decision}
 use Rattle.tree.specs.declared.Decision.the-variants.{Leaf, Quad, Binary, Ternary}
 use Rattle.tree.specs.Kind.{Kind}
+use Rattle.tree.specs.Splits.{isSplit, rightsOf, allows}
 use Rattle.tree.specs.Children.{share, slab, shares, childQt, childMtt, child, childrenFrom, children, cornerInside}
 use Rattle.tree.specs.Rows.{Row, rowOf, ownRows}
-use Rattle.tree.specs.Search.{Fit, whole, stuck, better, fitBy, fitAny, cuts, decisions, fit, fitNode, shown}
+use Rattle.tree.specs.Back.{sameRow}
+use Rattle.tree.specs.Search.{Fit, whole, stuck, fitThen, better, fitRows, fitAll, fitBy, fitAny, cuts, decisions, fit, fitNode, shown}
 use Rattle.tree.specs.Tree.{Trees, Tree, rowsOf}
 use Rattle.laws.specs.Directions.{corner}
 use Rattle.laws.specs.Good.{Good}
 use Rattle.laws.specs.Proper.{Proper}
 use Rattle.laws.proofs.Leaves.{rowStart}
+use Rattle.laws.proofs.Tests.{never}
 use Rattle.laws.proofs.Multiples.{fold-least}
 use Rattle.laws.proofs.Parts.{from, every-child}
 use Rattle.laws.proofs.First.{Deeper, first-row, start-same, start-there, quad-from, cut-from}
 use Rattle.laws.proofs.Agrees.{Agree, more, agree-short}
-use Rattle.laws.proofs.Fits.{none-starts}
-use Rattle.laws.proofs.Search.{By, byRows, fit-by-means, tree-means}
+use Rattle.laws.proofs.Fits.{Means, none-starts}
+use Rattle.laws.proofs.Search.{By, byRows, fit-open, fit-closed, fit-by-means, tree-means}
 use Rattle.laws.proofs.FitSteps.{by-same, kids-level, fit-level}
 
 -- ---- the first row
@@ -103,11 +106,74 @@ module _ (k : Kind) (n : Node) (go : Node → List Row → Fit) (rows : List Row
       none (whole rest) s = refl
       none (stuck left) s = ap stuck (omega arith)
 
+  -- one decision, and then the others
+  pub any-join : (d : Decision) (ds : List Decision) → fitAny k n go rows (d ∷ ds) ≡ better (fitAny k n go rows (d ∷ [])) (fitAny k n go rows ds)
+  unfolding fitAny better
+  any-join d ds = join (fitBy k n go rows d) (fitAny k n go rows ds) (some-any ds)
+    where
+      join : (f g : Fit) → Some rows g → better f g ≡ better (better f (stuck (length rows))) g
+      join (whole rest) g s = refl
+      join (stuck left) (whole rest) s = refl
+      join (stuck left) (stuck less) s = ap stuck (omega arith)
+
+  any-alone : (d : Decision) → Some rows (fitBy k n go rows d) → fitAny k n go rows (d ∷ []) ≡ fitBy k n go rows d
+  unfolding fitAny better
+  any-alone d s = alone (fitBy k n go rows d) s
+    where
+      alone : (f : Fit) → Some rows f → better f (stuck (length rows)) ≡ f
+      alone (whole rest) s = refl
+      alone (stuck left) s = ap stuck (omega arith)
+
+-- a leaf takes its own row
+pub any-leaf : (k : Kind) (n : Node) (go : Node → List Row → Fit) (r : Row) (rows : List Row)
+    → fitAny k n go (r ∷ rows) (Leaf ∷ []) ≡ cond (allows (rightsOf k n) Leaf && sameRow r (rowOf n)) (whole rows) (stuck (suc (length rows)))
+unfolding ownRows children childrenFrom shares fitThen fitRows fitAll
+any-leaf k n go r rows = any-alone k n go (r ∷ rows) Leaf (taken (allows (rightsOf k n) Leaf) refl .1) ∙ taken (allows (rightsOf k n) Leaf) refl .0
+  where
+    own : (s : Bool) → fitThen (cond s (whole rows) (stuck (suc (length rows)))) (λ rest. whole rest) ≡ cond s (whole rows) (stuck (suc (length rows)))
+    own true = refl
+    own false = refl
+
+    some : (s : Bool) → Some (r ∷ rows) (cond s (whole rows) (stuck (suc (length rows))))
+    some true = tt
+    some false = omega arith
+
+    taken : (b : Bool) → allows (rightsOf k n) Leaf ≡ b
+        → (fitBy k n go (r ∷ rows) Leaf ≡ cond (b && sameRow r (rowOf n)) (whole rows) (stuck (suc (length rows)))) × Some (r ∷ rows) (fitBy k n go (r ∷ rows) Leaf)
+    taken true ok = let e = fit-open k go n (r ∷ rows) Leaf ok ∙ own (sameRow r (rowOf n)) in (e, rw e (some (sameRow r (rowOf n))))
+    taken false shut = let e = fit-closed k go n (r ∷ rows) Leaf shut in (e, rw e (omega arith))
+
 -- ---- the search
 
 module _ {k : Kind} (v : Proper k) {n : Node} (p : Good (k .limits) n) (here : cornerInside (k .limits) n ≡ true) (fits : n .w + n .h + n .qt + n .mtt ≤ 256) where
   level : n .qt + n .mtt < 256
   level = let w = fold-least (p .shape .side Vertical .fold) in omega arith
+
+  -- one split: its parts, or nothing
+  by-some : (rows : List Row) (d : Decision) → Some rows (fitBy k n (fitNode k) rows d)
+  by-some rows d =
+      let below = fit (255 - (n .qt + n .mtt)) k in
+      rw (← (by-same k below (fitNode k) n (λ d ok. every-child k n d (kids-level k n level d ok)) rows d))
+      (go (fitBy k n below rows d) (fit-by-means v (255 - (n .qt + n .mtt)) n (p, let l = level in omega arith) rows d))
+    where
+      go : (f : Fit) → Means (byRows k n d) rows f → Some rows f
+      go (whole rest) m = tt
+      go (stuck left) m = m .within
+
+  pub any-split : (rows : List Row) (d : Decision) → isSplit d ≡ true → allows (rightsOf k n) d ≡ true
+      → fitAny k n (fitNode k) rows (d ∷ []) ≡ fitAll (k .limits) (fitNode k) (children (k .limits) n d) rows
+  unfolding ownRows fitThen fitRows
+  any-split rows d split ok = any-alone k n (fitNode k) rows d (by-some rows d) ∙ fit-open k (fitNode k) n rows d ok ∙ own d split
+    where
+      own : (d : Decision) → isSplit d ≡ true
+          → fitThen (fitRows (ownRows n d) rows) (λ rest. fitAll (k .limits) (fitNode k) (children (k .limits) n d) rest) ≡ fitAll (k .limits) (fitNode k) (children (k .limits) n d) rows
+      own Leaf e = never (sym e)
+      own Quad e = refl
+      own (Binary d) e = refl
+      own (Ternary d) e = refl
+
+  pub any-shut : (rows : List Row) (d : Decision) → allows (rightsOf k n) d ≡ false → fitAny k n (fitNode k) rows (d ∷ []) ≡ stuck (length rows)
+  any-shut rows d shut = any-alone k n (fitNode k) rows d (by-some rows d) ∙ fit-closed k (fitNode k) n rows d shut
 
   -- no row is left
   pub node-none : fitNode k n [] ≡ stuck 0

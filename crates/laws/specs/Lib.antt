@@ -4,6 +4,7 @@ pub mod CellOrder
 pub mod Counts
 pub mod Directions
 pub mod Every
+pub mod FitRun
 pub mod Geometry
 pub mod Good
 pub mod Multiples

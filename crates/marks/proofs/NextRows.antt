@@ -6,12 +6,12 @@ use native.Mathlib.Omega.{arith}
 use lib.ListN.{length, take, drop, take-append-drop}
 use lib.Pow.{pow-pos}
 use lib.Seq.{length-take-le, take-add}
-use Rattle.tree.specs.Rows.{rowAt, rowsAt, rowsIn}
+use Rattle.tree.specs.Rows.{Row, rowAt, rowsAt, rowsIn}
 use Rattle.tree.specs.Back.{cellsOf}
 use Rattle.laws.specs.Areas.{cellsOfAll}
 use Rattle.laws.proofs.Starts.{cells-append, cells-least}
 use Rattle.laws.proofs.Tables.{rows-long}
-use Rattle.marks.specs.Table.{rowsLeft}
+use Rattle.marks.specs.Table.{rowsLeft, Left}
 use Rattle.marks.specs.Marks.{cellsBefore}
 
 same-rows : (bytes : List ℕ) (m n i j : ℕ) → m ≡ n → i ≡ j → rowsAt m bytes i ≡ rowsAt n bytes j
@@ -32,6 +32,22 @@ from-next bytes i h = next bytes (i * 8) ((i + 1) * 8) (length bytes / 8 - i) (l
 
 pub from-end : (bytes : List ℕ) (i : ℕ) → length bytes / 8 ≤ i → rowsLeft bytes i ≡ []
 from-end bytes i h = no-rows bytes _ _ (omega arith)
+
+-- ---- the rows that are left at a place
+
+module _ {bytes : List ℕ} {at : ℕ} {rows : List Row} (l : Left bytes at rows) where
+  pub no-row : length bytes ≤ at → rows ≡ []
+  no-row h = l .from ∙ from-end bytes (at / 8) (omega arith)
+
+  module _ (more : at + 8 ≤ length bytes) where
+    pub next-row : rows ≡ rowAt bytes at ∷ rowsLeft bytes (at / 8 + 1)
+    next-row =
+        let f = l .first in
+        let e : at / 8 * 8 ≡ at = omega arith in
+        l .from ∙ from-next bytes (at / 8) (omega arith) ∙ ap (λ (i : ℕ). rowAt bytes i ∷ rowsLeft bytes (at / 8 + 1)) e
+
+    pub after-row : Left bytes (at + 8) (rowsLeft bytes (at / 8 + 1))
+    after-row = let f = l .first in let e : at / 8 + 1 ≡ (at + 8) / 8 = omega arith in record { from = ap (rowsLeft bytes) e; first = omega arith; within = more }
 
 -- ---- the rows before, and those from there on
 

@@ -145,6 +145,19 @@ module _ {bytes : List ℕ} {i : ℕ} (b : Eight bytes i) where
       let b₆ = b .at-6 in
       omega arith
 
+  pub word-mtt : wordAt bytes i / 72057594037927936 % 256 ≡ rowAt bytes i .mtt
+  unfolding wordAt wordOf rowAt
+  word-mtt =
+      let b₀ = b .at-0 in
+      let b₁ = b .at-1 in
+      let b₂ = b .at-2 in
+      let b₃ = b .at-3 in
+      let b₄ = b .at-4 in
+      let b₅ = b .at-5 in
+      let b₆ = b .at-6 in
+      let b₇ = b .at-7 in
+      omega arith
+
   module _ {n : Node} (f : Fits n) where
     pub same-word : wordAt bytes i ≡ rowWord (rowOf n) → sameRow (rowAt bytes i) (rowOf n) ≡ true
     same-word e =

@@ -1,5 +1,5 @@
 -- The rows of a table, as the walk of the way back reads them.
-use Prim.Native.Nat.{ℕ, _+_, _-_, _*_, _/_, _<_}
+use Prim.Native.Nat.{ℕ, _+_, _-_, _*_, _/_, _%_, _<_, _≤_}
 use mathlib.Core.Path.{_≡_}
 use mathlib.Core.Bool.{Bool, _&&_}
 use mathlib.Core.List.{List, [], _∷_}
@@ -11,6 +11,12 @@ use Rattle.blocks.specs.RowNumbers.{wordOf}
 -- the rows of a table from the row with a number on
 abbrev pub rowsLeft : List ℕ → ℕ → List Row
 rowsLeft bytes i = rowsAt (length bytes / 8 - i) bytes (i * 8)
+
+-- these rows are left at a place of a table, which is the first byte of a row
+pub record Left (bytes : List ℕ) (at : ℕ) (rows : List Row) : Type 0 where
+  pub from : rows ≡ rowsLeft bytes (at / 8)
+  pub first : at % 8 ≡ 0
+  pub within : at ≤ length bytes
 
 -- the 8 bytes at a place as one number, the first the lowest
 unfoldable pub wordAt : List ℕ → ℕ → ℕ

@@ -102,6 +102,14 @@ openBelow u row bound cuts quad = innerIn u row (bit (ltb row bound) cuts + quad
 abbrev pub depthAbove : List ℕ → ℕ
 depthAbove u = bit (ltb 0 (limitsIn u .maxmtt)) 30 + 1
 
--- a part of a binary cut there, which adds 1 to F: the cuts where its depth is below M + F, and never QT
+-- a part of a cut, with an offset: these cuts where its depth is below M + F, and never QT
+abbrev pub depthAt : List ℕ → ℕ → ℕ → ℕ → ℕ
+depthAt u row offset cuts = offset % 1024 * 64 + bit (ltb (nodeIn row .mtt + 1) (limitsIn u .maxmtt + offset)) cuts
+
+-- a part of a binary cut there, which adds 1 to F
 abbrev pub depthBelow : List ℕ → ℕ → ℕ → ℕ
-depthBelow u row depths = (depths / 64 + 1) % 1024 * 64 + bit (ltb (nodeIn row .mtt + 1) (limitsIn u .maxmtt + (depths / 64 + 1))) 30
+depthBelow u row depths = depthAt u row (depths / 64 + 1) 30
+
+-- a part of a cut inside the picture, where F stays
+abbrev pub depthBeside : List ℕ → ℕ → ℕ → ℕ → ℕ
+depthBeside u row depths cuts = depthAt u row (depths / 64) cuts

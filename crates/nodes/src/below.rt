@@ -14,7 +14,7 @@ ghost use mathlib.Core.Path.{_≡_};
 ghost use lib.Dec.{ltb};
 ghost use Prim.Native.Nat.{_≤_, _<_};
 ghost use Rattle.nodes.specs.Tables.{limitsIn};
-ghost use Rattle.nodes.specs.RowNodes.{boundIn, openBelow, cutsOf, depthAbove, depthBelow};
+ghost use Rattle.nodes.specs.RowNodes.{boundIn, openBelow, cutsOf, depthAbove, depthAt, depthBelow, depthBeside};
 
 // What 1 of the offset F is in what the depths leave to a node that may be out, above the masks of the five splits.
 const OFFSET: u32 = 64;
@@ -72,12 +72,26 @@ pub fn depth_above(u: &Table) -> u32
     splits::bit(0 < depth_bound(u), CUTS) + QT
 }
 
-// What they leave to a part of a binary cut at the edge of the picture, which adds 1 to F: the cuts where its depth is
-// below M + F, and never QT.
+// What they leave to a part of a cut, with its offset F: these cuts where its depth is below M + F, and never QT.
+fn depth_at(u: &Table, row: u64, offset: u32, cuts: u32) -> u32
+    requires { ⌜ cuts < 32 ⌝ }
+    ensures { λ r. ⌜ r ≡ depthAt (now (u .entry)) row offset cuts ⌝ }
+{
+    let deep = ((mtt_depth(row) + 1) as u64) < (depth_bound(u) as u64) + (offset as u64);
+    offset % 1024 * OFFSET + splits::bit(deep, cuts)
+}
+
+// What they leave to a part of a binary cut at the edge of the picture, which adds 1 to F.
 pub fn depth_below(u: &Table, row: u64, depths: u32) -> u32
     ensures { λ r. ⌜ r ≡ depthBelow (now (u .entry)) row depths ⌝ }
 {
-    let offset = depths / OFFSET + 1;
-    let deep = ((mtt_depth(row) + 1) as u64) < (depth_bound(u) as u64) + (offset as u64);
-    offset % 1024 * OFFSET + splits::bit(deep, CUTS)
+    depth_at(u, row, depths / OFFSET + 1, CUTS)
+}
+
+// What they leave, of these cuts, to a part of a cut inside the picture, where F stays.
+pub fn depth_beside(u: &Table, row: u64, depths: u32, cuts: u32) -> u32
+    requires { ⌜ cuts < 32 ⌝ }
+    ensures { λ r. ⌜ r ≡ depthBeside (now (u .entry)) row depths cuts ⌝ }
+{
+    depth_at(u, row, depths / OFFSET, cuts)
 }

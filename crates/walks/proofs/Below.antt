@@ -20,8 +20,8 @@ use Rattle.blocks.specs.Table.{shareAt}
 use Rattle.blocks.specs.RowNumbers.{rowWord}
 use Rattle.laws.proofs.Multiples.{fold-least}
 use Rattle.nodes.specs.Tables.{tableOf}
-use Rattle.nodes.specs.RowNodes.{nodeIn, cutsOf, depthAbove, depthBelow}
-use Rattle.walks.specs.Stands.{word, keeps, Placed, Outer}
+use Rattle.nodes.specs.RowNodes.{nodeIn, cutsOf, depthAbove, depthBelow, depthBeside}
+use Rattle.walks.specs.Stands.{keeps, Placed}
 use Rattle.walks.proofs.Sides.{exponent-of}
 use Rattle.walks.proofs.RowFields.{fits, row-packed, row-says, offset-says}
 
@@ -108,13 +108,30 @@ module _ (k : Kind) (n : Node) where
       let e = keeps-is l n (eq-eqb (n .mtt) 0 em) (ap₂ ltb em (let z : l .maxmtt + n .offset ≡ l .maxmtt = omega arith in z)) (m Horizontal) (m Vertical) in
       omega arith
 
-  -- a part of a binary cut that divides what is out
-  module _ {row depths : ℕ} (s : Outer k n (word row depths)) (d : Direction) (out : outAlong d (k .limits) n ≡ true) where
-    pub below-depths : (i : ℕ) → let c = child (k .limits) n (Binary d) (shareAt (Binary d) i) in depthBelow (tableOf k) row depths ≡ c .offset * 64 + openSplits (keeps (k .limits) c)
+  module _ {row depths : ℕ} (p : Placed (k .limits) n) (is : row ≡ rowWord (rowOf n)) (left : depths ≡ n .offset * 64 + openSplits (keeps (k .limits) n)) (d : Direction) where
+    -- a part of a binary cut that divides what is out
+    pub below-depths : outAlong d (k .limits) n ≡ true → (i : ℕ)
+        → let c = child (k .limits) n (Binary d) (shareAt (Binary d) i) in depthBelow (tableOf k) row depths ≡ c .offset * 64 + openSplits (keeps (k .limits) c)
     unfolding tableOf nodeIn child childMtt childOffset
-    below-depths i =
-        let o = offset-says s in
-        let u = s .placed .sum in
-        let v = s .placed .lifted in
+    below-depths out i =
+        let o = offset-says (k .limits) n left in
+        let u = p .sum in
+        let v = p .lifted in
         let r : (n .offset + 1) % 1024 ≡ n .offset + 1 = omega arith in
-        rw (o, row-says (s .placed) (s .row) .at-mtt, binary-keeps (k .limits) n d i, out, r) (omega arith)
+        rw (o, row-says p is .at-mtt, binary-keeps (k .limits) n d i, out, r) (omega arith)
+
+    -- a part of a cut that divides nothing that is out: the offset stays
+    kept-offset : n .offset % 1024 ≡ n .offset
+    kept-offset = let u = p .sum in let v = p .lifted in omega arith
+
+    pub beside-binary : outAlong d (k .limits) n ≡ false → (i : ℕ)
+        → let c = child (k .limits) n (Binary d) (shareAt (Binary d) i) in depthBeside (tableOf k) row depths 30 ≡ c .offset * 64 + openSplits (keeps (k .limits) c)
+    unfolding tableOf nodeIn child childMtt childOffset
+    beside-binary within i =
+        let z : n .offset + 0 ≡ n .offset = omega arith in
+        rw (offset-says (k .limits) n left, row-says p is .at-mtt, binary-keeps (k .limits) n d i, within, kept-offset, z) (omega arith)
+
+    pub beside-ternary : (i : ℕ) → shareAt (Ternary d) i .part ≡ i
+        → let c = child (k .limits) n (Ternary d) (shareAt (Ternary d) i) in depthBeside (tableOf k) row depths (cutsOf d i) ≡ c .offset * 64 + openSplits (keeps (k .limits) c)
+    unfolding tableOf nodeIn child childMtt childOffset
+    beside-ternary i part = rw (offset-says (k .limits) n left, row-says p is .at-mtt, ternary-keeps (k .limits) n d i part, kept-offset) (omega arith)

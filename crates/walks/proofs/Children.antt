@@ -102,6 +102,10 @@ module _ {k : Kind} (v : Proper k) {n : Node} {row : ℕ} (s : Placed (k .limits
     own-row : childRow row d i ≡ rowWord (rowOf (kid i))
     own-row = child-row s is d i piece (fits placed)
 
+    -- by the splits that its depths leave it
+    pub kid-outer : {m : ℕ} → m ≡ kid i .offset * 64 + openSplits (keeps (k .limits) (kid i)) → Outer k (kid i) (word (childRow row d i) m)
+    kid-outer e = record { placed = placed; row = own-row; depths = e; small = λ within. small }
+
     -- a child of a node inside the picture
     module _ (within : inside (k .limits) n ≡ true) where
       in-picture : (cornerInside (k .limits) (kid i) ≡ true) × (inside (k .limits) (kid i) ≡ true)
@@ -193,16 +197,6 @@ module _ {k : Kind} (v : Proper k) {bound : ℕ} {n : Node} {row splits : ℕ} (
 -- ---- the children of a node that is out
 
 module _ {k : Kind} (v : Proper k) {n : Node} {row depths : ℕ} (s : Outer k n (word row depths)) (out : inside (k .limits) n ≡ false) where
-  module _ (d : Decision) (ok : allows (rightsOf k n) d ≡ true) where
-    outer-kid : (i : ℕ) (piece : Piece d (shareAt d i)) {m : ℕ} → m ≡ kid v (s .placed) (s .row) d ok i .offset * 64 + openSplits (keeps (k .limits) (kid v (s .placed) (s .row) d ok i))
-        → Outer k (kid v (s .placed) (s .row) d ok i) (word (childRow row d i) m)
-    outer-kid i piece e = record {
-      placed = placed v (s .placed) (s .row) d ok i piece;
-      row = own-row v (s .placed) (s .row) d ok i piece;
-      depths = e;
-      small = λ within. small v (s .placed) (s .row) d ok i piece;
-    }
-
   -- a binary cut divides what is out
   cut-along : (d : Direction) → allows (rightsOf k n) (Binary d) ≡ true → outAlong d (k .limits) n ≡ true
   cut-along d ok = cut-out (k .limits) n d (binary-open k n d ok .across) out
@@ -213,13 +207,13 @@ module _ {k : Kind} (v : Proper k) {n : Node} {row depths : ℕ} (s : Outer k n 
   outer-kids Quad ok =
       let p = pieces Quad in
       let a : (i : ℕ) → _ = λ i. above-depths k (kid v (s .placed) (s .row) Quad ok i) refl refl in
-      one-more (outer-kid Quad ok 0 (p .0) (a 0)) (one-more (outer-kid Quad ok 1 (p .1 .0) (a 1)) (one-more (outer-kid Quad ok 2 (p .1 .1 .0) (a 2)) (one-more (outer-kid Quad ok 3 (p .1 .1 .1 .0) (a 3)) no-more)))
+      one-more (kid-outer v (s .placed) (s .row) Quad ok 0 (p .0) (a 0)) (one-more (kid-outer v (s .placed) (s .row) Quad ok 1 (p .1 .0) (a 1)) (one-more (kid-outer v (s .placed) (s .row) Quad ok 2 (p .1 .1 .0) (a 2)) (one-more (kid-outer v (s .placed) (s .row) Quad ok 3 (p .1 .1 .1 .0) (a 3)) no-more)))
   outer-kids (Binary Horizontal) ok =
       let p = pieces (Binary Horizontal) in
-      let b = below-depths k n s Horizontal (cut-along Horizontal ok) in
-      one-more (outer-kid (Binary Horizontal) ok 0 (p .0) (b 0)) (one-more (outer-kid (Binary Horizontal) ok 1 (p .1 .0) (b 1)) no-more)
+      let b = below-depths k n (s .placed) (s .row) (s .depths) Horizontal (cut-along Horizontal ok) in
+      one-more (kid-outer v (s .placed) (s .row) (Binary Horizontal) ok 0 (p .0) (b 0)) (one-more (kid-outer v (s .placed) (s .row) (Binary Horizontal) ok 1 (p .1 .0) (b 1)) no-more)
   outer-kids (Binary Vertical) ok =
       let p = pieces (Binary Vertical) in
-      let b = below-depths k n s Vertical (cut-along Vertical ok) in
-      one-more (outer-kid (Binary Vertical) ok 0 (p .0) (b 0)) (one-more (outer-kid (Binary Vertical) ok 1 (p .1 .0) (b 1)) no-more)
+      let b = below-depths k n (s .placed) (s .row) (s .depths) Vertical (cut-along Vertical ok) in
+      one-more (kid-outer v (s .placed) (s .row) (Binary Vertical) ok 0 (p .0) (b 0)) (one-more (kid-outer v (s .placed) (s .row) (Binary Vertical) ok 1 (p .1 .0) (b 1)) no-more)
   outer-kids (Ternary d) ok = clash (ternary-open k n d ok .within) out

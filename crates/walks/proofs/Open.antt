@@ -154,7 +154,7 @@ module _ (k : Kind) {n : Node} {row : ℕ} (p : Placed (k .limits) n) (is : row 
 -- ---- the numbers that stand for a node
 
 -- a number of open splits says the rights
-rights-of : (k : Kind) (n : Node) (within : Bool) → inside (k .limits) n ≡ within → rightsOf k n ≡ rightsIn (not within) (openSplits (rightsOf k n))
+pub rights-of : (k : Kind) (n : Node) (within : Bool) → inside (k .limits) n ≡ within → rightsOf k n ≡ rightsIn (not within) (openSplits (rightsOf k n))
 unfolding rightsOf
 rights-of k n within e = sym (rights-back (rightsOf k n)) ∙ ap (λ b. rightsIn (not b) (openSplits (rightsOf k n))) e
 
@@ -201,5 +201,5 @@ module _ {k : Kind} (v : Proper k) {n : Node} {row depths : ℕ} (s : Outer k n 
     within = within;
     row = s .row;
     splits = rw depths-is (masked k (fits (s .placed)) row (row-says (s .placed) (s .row) .at-w) (row-says (s .placed) (s .row) .at-h) (n .offset * 2) ∙ inner-open k (fits (s .placed)) (s .small within) within);
-    bounded = rw (offset-says s);
+    bounded = rw (offset-says (k .limits) n (s .depths));
   }

@@ -99,7 +99,7 @@ module _ {k : Kind} {root : Node} {u : List ℕ} {row : ℕ} {out : Bool} {split
       record { forRows = omega arith; forFlags = omega arith }
 
   module _ {A S : Type 0} (way : Way A S) (s : S) (c : ℕ) (at : way .at (placeOf c) s) (room : RoomFor way c row) where
-    room-here : RoomAt way (placeOf c) (givenOf c) (root ∷ [])
+    pub room-here : RoomAt way (placeOf c) (givenOf c) (root ∷ [])
     unfolding areasOf roomOf flagRoom
     room-here =
         let e = says-area in

@@ -6,8 +6,7 @@ use Rattle.sides.specs.Side.{exponent}
 use Rattle.tree.specs.declared.Limits.{Limits}
 use Rattle.tree.specs.declared.Node.{Node}
 use Rattle.tree.specs.declared.Direction.the-variants.{Horizontal, Vertical}
-use Rattle.tree.specs.Kind.{Kind}
-use Rattle.tree.specs.Splits.{rightOut, bottomOut}
+use Rattle.tree.specs.Splits.{rightOut, bottomOut, openSplits}
 use Rattle.tree.specs.Children.{cornerInside}
 use Rattle.tree.specs.Rows.{rowOf}
 use Rattle.blocks.specs.RowNumbers.{rowWord}
@@ -16,7 +15,7 @@ use Rattle.laws.specs.Shape.{Shape}
 use Rattle.laws.proofs.Multiples.{fold-least}
 use Rattle.laws.proofs.Sides.{One, one-of}
 use Rattle.nodes.specs.RowNodes.{nodeIn}
-use Rattle.walks.specs.Stands.{Placed, Outer, word, keeps}
+use Rattle.walks.specs.Stands.{Placed, keeps}
 use Rattle.walks.proofs.Sides.{exponent-of}
 use Rattle.walks.proofs.MaskLaws.{splits-small}
 
@@ -114,8 +113,5 @@ module _ {l : Limits} {n : Node} {row : ℕ} (p : Placed l n) (is : row ≡ rowW
   corner-says l = rw (row-says .at-x, row-says .at-y)
 
 -- the offset, as the splits that its depths leave say it
-pub offset-says : {k : Kind} {n : Node} {row depths : ℕ} → Outer k n (word row depths) → depths / 64 ≡ n .offset
-offset-says {k} {n} s =
-    let e = s .depths in
-    let b = splits-small (keeps (k .limits) n) in
-    omega arith
+pub offset-says : (l : Limits) (n : Node) {depths : ℕ} → depths ≡ n .offset * 64 + openSplits (keeps l n) → depths / 64 ≡ n .offset
+offset-says l n e = let b = splits-small (keeps l n) in omega arith

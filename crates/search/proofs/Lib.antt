@@ -1,0 +1,6 @@
+pub mod Answers
+pub mod Nodes
+pub mod PartWords
+pub mod Root
+pub mod Steps
+pub mod Way

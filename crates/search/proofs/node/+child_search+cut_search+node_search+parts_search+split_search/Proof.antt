@@ -1,0 +1,436 @@
+use Prim.Native.Nat.{ℕ, _+_, _-_, _*_}
+use mathlib.Core.Path.{_≡_, refl, sym, ap, _∙_}
+use mathlib.Core.List.{[], _∷_}
+use native.Mathlib.Omega.{arith}
+use lib.ListN.{length}
+use denote.Ref.{now}
+use borrow.Author.Needs.{needs}
+use Rattle.tree.specs.declared.Direction.the-variants.{Horizontal, Vertical}
+use Rattle.tree.specs.declared.Decision.the-variants.{Quad, Binary, Ternary}
+use Rattle.tree.specs.Children.{shares}
+use Rattle.nodes.specs.RowNodes.{childRow}
+use Rattle.walks.specs.Stands.{areaIn}
+use Rattle.walks.proofs.Apart.{tested-not, tested-or, was-walked, was-refused}
+use Rattle.walks.proofs.AtEdge.{out-splits-is, edge-gone}
+use Rattle.search.specs.Walking.{searchWay}
+use Rattle.search.proofs.Nodes.{known-asked, known-walked, out-known, in-known, tried-first, tried-second, tried-farther}
+use Rattle.search.proofs.PartWords.{four-parts}
+use Rattle.search.proofs.Steps.{row-there, node-ended, node-elsewhere, node-quad, node-cut, node-leaf, node-other, split-shut, parts-asked, split-tried, parts-ended, part-asked, part-refused, rest-asked, rest-walked}
+use borrow.Fn.Kinds.{In}
+use borrow.Fn.PlainCycle.{Measures}
+use Rattle.walks.proofs.Cycles.{at, below}
+use Rattle.search.proofs.node.child_search.Reads as child-search
+use Rattle.search.proofs.node.child_search.Kinds as child-search-kinds
+use Rattle.search.proofs.node.+child_search+cut_search+node_search+parts_search+split_search.Lts-child_search as child-search-lts
+use Rattle.search.proofs.node.cut_search.Reads as cut-search
+use Rattle.search.proofs.node.cut_search.Kinds as cut-search-kinds
+use Rattle.search.proofs.node.+child_search+cut_search+node_search+parts_search+split_search.Lts-cut_search as cut-search-lts
+use Rattle.search.proofs.node.node_search.Reads as node-search
+use Rattle.search.proofs.node.node_search.Kinds as node-search-kinds
+use Rattle.search.proofs.node.+child_search+cut_search+node_search+parts_search+split_search.Lts-node_search as node-search-lts
+use Rattle.search.proofs.node.parts_search.Reads as parts-search
+use Rattle.search.proofs.node.parts_search.Kinds as parts-search-kinds
+use Rattle.search.proofs.node.+child_search+cut_search+node_search+parts_search+split_search.Lts-parts_search as parts-search-lts
+use Rattle.search.proofs.node.split_search.Reads as split-search
+use Rattle.search.proofs.node.split_search.Kinds as split-search-kinds
+use Rattle.search.proofs.node.+child_search+cut_search+node_search+parts_search+split_search.Lts-split_search as split-search-lts
+use Rattle.flags.proofs.allowed.Reads as allowed-reads
+use Rattle.marks.proofs.word_at.Reads as word-at-reads
+use Rattle.nodes.proofs.child_row.Reads as child-row-reads
+use Rattle.nodes.proofs.begins_inside.Reads as begins-inside-reads
+use Rattle.nodes.proofs.bottom_out_at.Reads as bottom-out-at-reads
+use Rattle.nodes.proofs.right_out_at.Reads as right-out-at-reads
+use Rattle.nodes.proofs.mtt_depth.Reads as mtt-depth-reads
+use Rattle.nodes.proofs.qt_depth.Reads as qt-depth-reads
+use Rattle.nodes.proofs.inner_splits.Reads as inner-splits-reads
+use Rattle.nodes.proofs.out_splits.Reads as out-splits-reads
+use Rattle.nodes.proofs.child_answer.Reads as child-answer-reads
+use Rattle.nodes.proofs.further.Reads as further-reads
+use Rattle.nodes.proofs.place.Reads as place-reads
+use Rattle.nodes.proofs.refusal.Reads as refusal-reads
+use Rattle.search.proofs.parts.farther.Reads as farther-reads
+use Rattle.search.proofs.parts.left_to.Reads as left-to-reads
+use Rattle.search.proofs.parts.parts.Reads as parts-reads
+use Rattle.search.proofs.node.+child_search+cut_search+node_search+parts_search+split_search.{statement}
+use Rattle.search.proofs.node.+child_search+cut_search+node_search+parts_search+split_search.Tie.{close}
+
+-- the area of the node; the parts of one are smaller
+abbrev μ-child-search : Measures 2 child-search-kinds.ps ℕ
+μ-child-search κs a = areaIn (a .1 .1 .1 .0) * 16 + 12
+
+abbrev μ-node-search : Measures 2 node-search-kinds.ps ℕ
+μ-node-search κs a = areaIn (a .1 .1 .1 .0) * 16 + 11
+
+abbrev μ-cut-search : Measures 2 cut-search-kinds.ps ℕ
+μ-cut-search κs a = areaIn (a .1 .1 .1 .0) * 16 + 10
+
+abbrev μ-split-search : Measures 2 split-search-kinds.ps ℕ
+μ-split-search κs a = areaIn (a .1 .1 .1 .0) * 16 + 9
+
+abbrev μ-parts-search : Measures 2 parts-search-kinds.ps ℕ
+μ-parts-search κs a = areaIn (a .1 .1 .1 .0) * 16 + (length (shares (a .1 .1 .1 .1 .1 .1 .0)) - a .1 .1 .1 .1 .1 .1 .1 .0)
+
+abbrev child-search-at : ℕ → In 2 child-search-kinds.ps
+child-search-at t = at 2 child-search-kinds.ps μ-child-search child-search.Pre t
+
+abbrev cut-search-at : ℕ → In 2 cut-search-kinds.ps
+cut-search-at t = at 2 cut-search-kinds.ps μ-cut-search cut-search.Pre t
+
+abbrev node-search-at : ℕ → In 2 node-search-kinds.ps
+node-search-at t = at 2 node-search-kinds.ps μ-node-search node-search.Pre t
+
+abbrev parts-search-at : ℕ → In 2 parts-search-kinds.ps
+parts-search-at t = at 2 parts-search-kinds.ps μ-parts-search parts-search.Pre t
+
+abbrev split-search-at : ℕ → In 2 split-search-kinds.ps
+split-search-at t = at 2 split-search-kinds.ps μ-split-search split-search.Pre t
+
+-- what the functions that each member calls ask and give
+abbrev child-claims : ℕ → child-search-lts.Claims
+child-claims t = (begins-inside-reads.Asked, begins-inside-reads.Learnt, right-out-at-reads.Asked, right-out-at-reads.Learnt, bottom-out-at-reads.Asked, bottom-out-at-reads.Learnt, out-splits-reads.Asked, out-splits-reads.Learnt, below 2 node-search-kinds.ps μ-node-search node-search.Pre t, node-search.Post, inner-splits-reads.Asked, inner-splits-reads.Learnt)
+
+abbrev cut-claims : ℕ → cut-search-lts.Claims
+cut-claims t = (below 2 split-search-kinds.ps μ-split-search split-search.Pre t, split-search.Post, child-answer-reads.Asked, child-answer-reads.Learnt, farther-reads.Asked, farther-reads.Learnt)
+
+abbrev node-claims : ℕ → node-search-lts.Claims
+node-claims t = (place-reads.Asked, place-reads.Learnt, refusal-reads.Asked, refusal-reads.Learnt, word-at-reads.Asked, word-at-reads.Learnt, qt-depth-reads.Asked, qt-depth-reads.Learnt, below 2 split-search-kinds.ps μ-split-search split-search.Pre t, split-search.Post, mtt-depth-reads.Asked, mtt-depth-reads.Learnt, below 2 cut-search-kinds.ps μ-cut-search cut-search.Pre t, cut-search.Post, further-reads.Asked, further-reads.Learnt)
+
+abbrev parts-claims : ℕ → parts-search-lts.Claims
+parts-claims t = (parts-reads.Asked, parts-reads.Learnt, child-row-reads.Asked, child-row-reads.Learnt, left-to-reads.Asked, left-to-reads.Learnt, below 2 child-search-kinds.ps μ-child-search child-search.Pre t, child-search.Post, child-answer-reads.Asked, child-answer-reads.Learnt, below 2 parts-search-kinds.ps μ-parts-search parts-search.Pre t, parts-search.Post)
+
+abbrev split-claims : ℕ → split-search-lts.Claims
+split-claims t = (allowed-reads.Asked, allowed-reads.Learnt, place-reads.Asked, place-reads.Learnt, refusal-reads.Asked, refusal-reads.Learnt, below 2 parts-search-kinds.ps μ-parts-search parts-search.Pre t, parts-search.Post)
+
+-- ---- a child
+
+child-returns : (t : ℕ) → child-search-lts.Need-returns (child-claims t) (child-search-at t) child-search.Post
+child-returns t c =
+    let be = c .before in
+    let st = be .before .before in
+    edge-gone (searchWay (now (st .args .rows))) refl (tested-not (be .begins-inside .ensures) (c .if1 .taken))
+
+child-node-search-requires : (t : ℕ) → child-search-lts.Need-node-search-requires (child-claims t) (child-search-at t) child-search.Post
+child-node-search-requires t c κs =
+    let bo = c .before .before in
+    let ro = bo .before in
+    let be = ro .before .before in
+    let st = be .before .before in
+    let m = st .pre .0 in (
+      omega arith,
+      (
+        known-asked (out-known (tested-not (be .begins-inside .ensures) (ro .before .if1 .left)) (tested-or (ro .right-out-at .ensures) (bo .bottom-out-at .ensures) (c .before .if2 .taken))
+            (out-splits-is (now (st .args .u)) (st .args .row) (st .args .depths) (ro .right-out-at .ensures) (bo .bottom-out-at .ensures) (c .out-splits .ensures))) (st .pre .1 .0),
+        st .pre .1 .1,
+      ),
+    )
+
+child-returns-2 : (t : ℕ) → child-search-lts.Need-returns-2 (child-claims t) (child-search-at t) child-search.Post
+child-returns-2 t c =
+    let os = c .before in
+    let bo = os .before .before in
+    let ro = bo .before in
+    let be = ro .before .before in
+    let st = be .before .before in
+    known-walked (out-known (tested-not (be .begins-inside .ensures) (ro .before .if1 .left)) (tested-or (ro .right-out-at .ensures) (bo .bottom-out-at .ensures) (os .before .if2 .taken))
+    (out-splits-is (now (st .args .u)) (st .args .row) (st .args .depths) (ro .right-out-at .ensures) (bo .bottom-out-at .ensures) (os .out-splits .ensures))) (c .node-search .ensures)
+
+child-node-search-requires-2 : (t : ℕ) → child-search-lts.Need-node-search-requires-2 (child-claims t) (child-search-at t) child-search.Post
+child-node-search-requires-2 t c κs =
+    let bo = c .before .before in
+    let ro = bo .before in
+    let be = ro .before .before in
+    let st = be .before .before in
+    let m = st .pre .0 in
+    (omega arith, (known-asked (in-known (tested-not (be .begins-inside .ensures) (ro .before .if1 .left)) (tested-or (ro .right-out-at .ensures) (bo .bottom-out-at .ensures) (c .before .if2 .left)) (c .inner-splits .ensures)) (st .pre .1 .0), st .pre .1 .1))
+
+child-returns-3 : (t : ℕ) → child-search-lts.Need-returns-3 (child-claims t) (child-search-at t) child-search.Post
+child-returns-3 t c =
+    let is = c .before in
+    let bo = is .before .before in
+    let ro = bo .before in
+    let be = ro .before .before in
+    let st = be .before .before in
+    known-walked (in-known (tested-not (be .begins-inside .ensures) (ro .before .if1 .left)) (tested-or (ro .right-out-at .ensures) (bo .bottom-out-at .ensures) (is .before .if2 .left)) (is .inner-splits .ensures)) (c .node-search2 .ensures)
+
+-- ---- a node
+
+node-returns : (t : ℕ) → node-search-lts.Need-returns (node-claims t) (node-search-at t) node-search.Post
+node-returns t c =
+    let th = c .before in
+    let pl = th .before in
+    let st = pl .before .before in
+    node-ended (st .pre .1 .0) (st .pre .1 .1) (pl .place .ensures .0) (th .if1 .taken) (c .refusal .ensures)
+
+node-word-at-requires : (t : ℕ) → node-search-lts.Need-word-at-requires (node-claims t) (node-search-at t) node-search.Post
+node-word-at-requires t c κs =
+    let pl = c .before in
+    let st = pl .before .before in
+    row-there (st .pre .1 .0) (st .pre .1 .1) (pl .place .ensures .0) (c .if1 .left)
+
+node-returns-2 : (t : ℕ) → node-search-lts.Need-returns-2 (node-claims t) (node-search-at t) node-search.Post
+node-returns-2 t c =
+    let th = c .before in
+    let wo = th .before in
+    let el = wo .before in
+    let pl = el .before in
+    let st = pl .before .before in
+    node-elsewhere (st .pre .1 .0) (st .pre .1 .1) (pl .place .ensures .0) (el .if1 .left) (wo .word-at .ensures) (th .if2 .taken) (c .refusal2 .ensures)
+
+node-split-search-requires : (t : ℕ) → node-search-lts.Need-split-search-requires (node-claims t) (node-search-at t) node-search.Post
+node-split-search-requires t c κs =
+    let st = c .before .before .before .before .before .before .before .before in
+    let m = st .pre .0 in
+    (omega arith, (st .pre .1 .0, st .pre .1 .1, refl))
+
+node-returns-3 : (t : ℕ) → node-search-lts.Need-returns-3 (node-claims t) (node-search-at t) node-search.Post
+node-returns-3 t c =
+    let th = c .before in
+    let qb = th .before in
+    let qa = qb .before in
+    let wo = qa .before .before in
+    let el = wo .before in
+    let pl = el .before in
+    let st = pl .before .before in
+    node-quad (st .pre .1 .0) (st .pre .1 .1) (pl .place .ensures .0) (el .if1 .left) (wo .word-at .ensures) (qa .qt-depth .ensures .0) (qb .qt-depth2 .ensures .0) (th .if3 .taken) (c .split-search .ensures)
+
+node-cut-search-requires : (t : ℕ) → node-search-lts.Need-cut-search-requires (node-claims t) (node-search-at t) node-search.Post
+node-cut-search-requires t c κs =
+    let st = c .before .before .before .before .before .before .before .before .before .before .before in
+    let m = st .pre .0 in
+    (omega arith, (st .pre .1 .0, st .pre .1 .1))
+
+node-returns-4 : (t : ℕ) → node-search-lts.Need-returns-4 (node-claims t) (node-search-at t) node-search.Post
+node-returns-4 t c =
+    let th = c .before in
+    let mb = th .before in
+    let ma = mb .before in
+    let ef = ma .before in
+    let qb = ef .before in
+    let qa = qb .before in
+    let wo = qa .before .before in
+    let el = wo .before in
+    let pl = el .before in
+    let st = pl .before .before in
+    node-cut (st .pre .1 .0) (st .pre .1 .1) (pl .place .ensures .0) (el .if1 .left) (wo .word-at .ensures) (qa .qt-depth .ensures .0) (qb .qt-depth2 .ensures .0) (ef .if3 .left) (ma .mtt-depth .ensures .0) (mb .mtt-depth2 .ensures .0) (th .if4 .taken) (c .cut-search .ensures)
+
+node-returns-5 : (t : ℕ) → node-search-lts.Need-returns-5 (node-claims t) (node-search-at t) node-search.Post
+node-returns-5 t c =
+    let th = c .before in
+    let eq = th .before in
+    let mb = eq .before in
+    let ma = mb .before in
+    let ef = ma .before in
+    let qb = ef .before in
+    let qa = qb .before in
+    let wo = qa .before .before in
+    let el = wo .before in
+    let pl = el .before in
+    let st = pl .before .before in
+    node-leaf (st .pre .1 .0) (st .pre .1 .1) (pl .place .ensures .0) (el .if1 .left) (wo .word-at .ensures) (qa .qt-depth .ensures .0) (qb .qt-depth2 .ensures .0) (ef .if3 .left) (ma .mtt-depth .ensures .0) (mb .mtt-depth2 .ensures .0) (eq .if4 .left) (th .if5 .taken) (c .further .ensures)
+
+node-returns-6 : (t : ℕ) → node-search-lts.Need-returns-6 (node-claims t) (node-search-at t) node-search.Post
+node-returns-6 t c =
+    let th = c .before in
+    let eq = th .before in
+    let mb = eq .before in
+    let ma = mb .before in
+    let ef = ma .before in
+    let qb = ef .before in
+    let qa = qb .before in
+    let wo = qa .before .before in
+    let el = wo .before in
+    let pl = el .before in
+    let st = pl .before .before in
+    node-other (st .pre .1 .0) (st .pre .1 .1) (pl .place .ensures .0) (el .if1 .left) (wo .word-at .ensures) (qa .qt-depth .ensures .0) (qb .qt-depth2 .ensures .0) (ef .if3 .left) (ma .mtt-depth .ensures .0) (mb .mtt-depth2 .ensures .0) (eq .if4 .left) (th .if5 .left) (c .refusal3 .ensures)
+
+-- ---- the cuts of a node, one after the other
+
+cut-split-search-requires : (t : ℕ) → cut-search-lts.Need-split-search-requires (cut-claims t) (cut-search-at t) cut-search.Post
+cut-split-search-requires t c κs =
+    let st = c .before in
+    let m = st .pre .0 in
+    (omega arith, (st .pre .1 .0, st .pre .1 .1, refl))
+
+cut-split-search-requires-2 : (t : ℕ) → cut-search-lts.Need-split-search-requires-2 (cut-claims t) (cut-search-at t) cut-search.Post
+cut-split-search-requires-2 t c κs =
+    let st = c .before .before .before .before .before in
+    let m = st .pre .0 in
+    (omega arith, (st .pre .1 .0, st .pre .1 .1, refl))
+
+cut-split-search-requires-3 : (t : ℕ) → cut-search-lts.Need-split-search-requires-3 (cut-claims t) (cut-search-at t) cut-search.Post
+cut-split-search-requires-3 t c κs =
+    let st = c .before .before .before .before .before .before .before .before .before in
+    let m = st .pre .0 in
+    (omega arith, (st .pre .1 .0, st .pre .1 .1, refl))
+
+cut-split-search-requires-4 : (t : ℕ) → cut-search-lts.Need-split-search-requires-4 (cut-claims t) (cut-search-at t) cut-search.Post
+cut-split-search-requires-4 t c κs =
+    let st = c .before .before .before .before .before .before .before .before .before .before .before .before .before in
+    let m = st .pre .0 in
+    (omega arith, (st .pre .1 .0, st .pre .1 .1, refl))
+
+cut-returns : (t : ℕ) → cut-search-lts.Need-returns (cut-claims t) (cut-search-at t) cut-search.Post
+cut-returns t c =
+    let ca = c .before .before in
+    tried-first (ca .before .split-search .ensures) (was-walked _ (ca .child-answer .ensures) (c .enum-told2 .given .1) .1)
+
+cut-returns-2 : (t : ℕ) → cut-search-lts.Need-returns-2 (cut-claims t) (cut-search-at t) cut-search.Post
+cut-returns-2 t c =
+    let ca = c .before .before in
+    let on = was-walked _ (ca .child-answer2 .ensures) (c .enum-told4 .given .1) .1 in
+    let k1 = ca .before .before in
+    let a1 = k1 .before .before in
+    let h1 = was-refused _ (a1 .child-answer .ensures) (k1 .enum-told .given .1) in
+    tried-second (a1 .before .split-search .ensures) h1 (tried-first (ca .before .split-search2 .ensures) on) on
+
+cut-returns-3 : (t : ℕ) → cut-search-lts.Need-returns-3 (cut-claims t) (cut-search-at t) cut-search.Post
+cut-returns-3 t c =
+    let ca = c .before .before in
+    let on = was-walked _ (ca .child-answer3 .ensures) (c .enum-told6 .given .1) .1 in
+    let k2 = ca .before .before in
+    let a2 = k2 .before .before in
+    let h2 = was-refused _ (a2 .child-answer2 .ensures) (k2 .enum-told3 .given .1) in
+    let k1 = a2 .before .before in
+    let a1 = k1 .before .before in
+    let h1 = was-refused _ (a1 .child-answer .ensures) (k1 .enum-told .given .1) in
+    tried-second (a1 .before .split-search .ensures) h1 (tried-second (a2 .before .split-search2 .ensures) h2 (tried-first (ca .before .split-search3 .ensures) on) on) on
+
+cut-returns-4 : (t : ℕ) → cut-search-lts.Need-returns-4 (cut-claims t) (cut-search-at t) cut-search.Post
+cut-returns-4 t c =
+    let ca = c .before .before in
+    let on = was-walked _ (ca .child-answer4 .ensures) (c .enum-told8 .given .1) .1 in
+    let k3 = ca .before .before in
+    let a3 = k3 .before .before in
+    let h3 = was-refused _ (a3 .child-answer3 .ensures) (k3 .enum-told5 .given .1) in
+    let k2 = a3 .before .before in
+    let a2 = k2 .before .before in
+    let h2 = was-refused _ (a2 .child-answer2 .ensures) (k2 .enum-told3 .given .1) in
+    let k1 = a2 .before .before in
+    let a1 = k1 .before .before in
+    let h1 = was-refused _ (a1 .child-answer .ensures) (k1 .enum-told .given .1) in
+    tried-second (a1 .before .split-search .ensures) h1 (tried-second (a2 .before .split-search2 .ensures) h2 (tried-second (a3 .before .split-search3 .ensures) h3 (ca .before .split-search4 .ensures) on) on) on
+
+cut-returns-5 : (t : ℕ) → cut-search-lts.Need-returns-5 (cut-claims t) (cut-search-at t) cut-search.Post
+cut-returns-5 t c =
+    let f2 = c .before in
+    let f1 = f2 .before in
+    let k4 = f1 .before in
+    let a4 = k4 .before .before in
+    let h4 = was-refused _ (a4 .child-answer4 .ensures) (k4 .enum-told7 .given .1) in
+    let k3 = a4 .before .before in
+    let a3 = k3 .before .before in
+    let h3 = was-refused _ (a3 .child-answer3 .ensures) (k3 .enum-told5 .given .1) in
+    let k2 = a3 .before .before in
+    let a2 = k2 .before .before in
+    let h2 = was-refused _ (a2 .child-answer2 .ensures) (k2 .enum-told3 .given .1) in
+    let k1 = a2 .before .before in
+    let a1 = k1 .before .before in
+    let h1 = was-refused _ (a1 .child-answer .ensures) (k1 .enum-told .given .1) in
+    let last = tried-farther (a3 .before .split-search3 .ensures) h3 (a4 .before .split-search4 .ensures) h4 (f1 .farther .ensures) in
+    let later = tried-farther (a2 .before .split-search2 .ensures) h2 (last .0) (last .1) (f2 .farther2 .ensures) in
+    tried-farther (a1 .before .split-search .ensures) h1 (later .0) (later .1) (c .farther3 .ensures) .0
+
+-- ---- a split
+
+split-returns : (t : ℕ) → split-search-lts.Need-returns (split-claims t) (split-search-at t) split-search.Post
+split-returns t c =
+    let pl = c .before in
+    let al = pl .before .before in
+    let st = al .before .before in
+    split-shut (st .args .d) (st .pre .1 .2) (tested-not (al .allowed .ensures) (pl .before .if1 .taken)) (pl .place .ensures .0) (c .refusal .ensures)
+
+split-parts-search-requires : (t : ℕ) → split-search-lts.Need-parts-search-requires (split-claims t) (split-search-at t) split-search.Post
+split-parts-search-requires t c κs =
+    let al = c .before in
+    let st = al .before .before in
+    let m = st .pre .0 in
+    let f = four-parts (st .args .d) in
+    let a = parts-asked (st .args .d) (st .pre .1 .2) (tested-not (al .allowed .ensures) (c .if1 .left)) (st .pre .1 .0) in
+    (omega arith, (a .0, st .pre .1 .1, a .1))
+
+split-returns-2 : (t : ℕ) → split-search-lts.Need-returns-2 (split-claims t) (split-search-at t) split-search.Post
+split-returns-2 t c =
+    let el = c .before in
+    let al = el .before in
+    let st = al .before .before in
+    split-tried (st .args .d) (st .pre .1 .2) (tested-not (al .allowed .ensures) (el .if1 .left)) (c .parts-search .ensures)
+
+-- ---- its parts
+
+parts-returns : (t : ℕ) → parts-search-lts.Need-returns (parts-claims t) (parts-search-at t) parts-search.Post
+parts-returns t c =
+    let pa = c .before in
+    let a = pa .before .before .args in
+    let e = pa .parts .ensures .0 in
+    let h = c .if1 .taken in
+    parts-ended (now (a .u)) (a .row) (a .depths) (a .out) (a .d) (a .i) (omega arith)
+
+parts-child-search-requires : (t : ℕ) → parts-search-lts.Need-child-search-requires (parts-claims t) (parts-search-at t) parts-search.Post
+parts-child-search-requires t c κs =
+    let cr = c .before in
+    let el = cr .before in
+    let pa = el .before in
+    let st = pa .before .before in
+    let a = st .args in
+    let e = pa .parts .ensures .0 in
+    let h = el .if1 .left in
+    let m = st .pre .0 in
+    let less = st .pre .1 .2 .each (a .i) (omega arith) in
+    let same : areaIn (cr .child-row .result) ≡ areaIn (childRow (a .row) (a .d) (a .i)) = ap (λ (x : ℕ). areaIn x) (cr .child-row .ensures) in
+    (omega arith, (part-asked (now (a .u)) (a .row) (a .depths) (a .out) (a .d) (a .i) (omega arith) (cr .child-row .ensures) (c .left-to .ensures) (st .pre .1 .0), st .pre .1 .1))
+
+parts-returns-2 : (t : ℕ) → parts-search-lts.Need-returns-2 (parts-claims t) (parts-search-at t) parts-search.Post
+parts-returns-2 t c =
+    let ca = c .before .before in
+    let cs = ca .before in
+    let le = cs .before in
+    let cr = le .before in
+    let el = cr .before in
+    let pa = el .before in
+    let st = pa .before .before in
+    let a = st .args in
+    let e = pa .parts .ensures .0 in
+    let h = el .if1 .left in
+    part-refused (now (a .u)) (a .row) (a .depths) (a .out) (a .d) (a .i) (omega arith) (cr .child-row .ensures) (le .left-to .ensures) (st .pre .1 .0) (cs .child-search .ensures) (was-refused _ (ca .child-answer .ensures) (c .enum-told .given .1))
+
+parts-parts-search-requires : (t : ℕ) → parts-search-lts.Need-parts-search-requires (parts-claims t) (parts-search-at t) parts-search.Post
+parts-parts-search-requires t c κs =
+    let ca = c .before .before .before in
+    let cs = ca .before in
+    let le = cs .before in
+    let cr = le .before in
+    let el = cr .before in
+    let pa = el .before in
+    let st = pa .before .before in
+    let a = st .args in
+    let e = pa .parts .ensures .0 in
+    let h = el .if1 .left in
+    let m = st .pre .0 in
+    (omega arith, (rest-asked (now (a .u)) (a .row) (a .depths) (a .out) (a .d) (a .i) (omega arith) (cr .child-row .ensures) (le .left-to .ensures) (st .pre .1 .0) (cs .child-search .ensures) (was-walked _ (ca .child-answer .ensures) (c .before .c1 .given .1)), st .pre .1 .1, st .pre .1 .2))
+
+parts-returns-3 : (t : ℕ) → parts-search-lts.Need-returns-3 (parts-claims t) (parts-search-at t) parts-search.Post
+parts-returns-3 t c =
+    let kt = c .before in
+    let ca = kt .before .before .before in
+    let cs = ca .before in
+    let le = cs .before in
+    let cr = le .before in
+    let el = cr .before in
+    let pa = el .before in
+    let st = pa .before .before in
+    let a = st .args in
+    let e = pa .parts .ensures .0 in
+    let h = el .if1 .left in
+    rest-walked (now (a .u)) (a .row) (a .depths) (a .out) (a .d) (a .i) (omega arith) (cr .child-row .ensures) (le .left-to .ensures) (st .pre .1 .0) (cs .child-search .ensures) (was-walked _ (ca .child-answer .ensures) (kt .before .c1 .given .1)) (c .parts-search .ensures)
+
+pub +child-search+cut-search+node-search+parts-search+split-search-spec : {M : Type 1} → statement M
++child-search+cut-search+node-search+parts-search+split-search-spec =
+    close
+    μ-child-search μ-cut-search μ-node-search μ-parts-search μ-split-search
+    (λ t. child-search-lts.spec (child-claims t) (child-search-at t) child-search.Post (λ c κs. search needs) (child-returns t) (λ c κs. search needs) (λ c κs. search needs) (λ c κs. search needs) (child-node-search-requires t) (child-returns-2 t) (λ c κs. search needs) (child-node-search-requires-2 t) (child-returns-3 t))
+    (λ t. cut-search-lts.spec (cut-claims t) (cut-search-at t) cut-search.Post (cut-split-search-requires t) (λ c κs. search needs) (λ c. search needs) (λ c. search needs) (cut-returns t) (cut-split-search-requires-2 t) (λ c κs. search needs) (λ c. search needs) (λ c. search needs) (cut-returns-2 t)
+    (cut-split-search-requires-3 t) (λ c κs. search needs) (λ c. search needs) (λ c. search needs) (cut-returns-3 t) (cut-split-search-requires-4 t) (λ c κs. search needs) (λ c. search needs) (λ c. search needs) (cut-returns-4 t) (λ c κs. search needs) (λ c κs. search needs) (λ c κs. search needs) (cut-returns-5 t))
+    (λ t. node-search-lts.spec (node-claims t) (node-search-at t) node-search.Post (λ c κs. search needs) (λ c κs. search needs) (node-returns t) (node-word-at-requires t) (λ c κs. search needs) (node-returns-2 t) (λ c κs. search needs) (λ c κs. search needs) (node-split-search-requires t) (node-returns-3 t)
+    (λ c κs. search needs) (λ c κs. search needs) (node-cut-search-requires t) (node-returns-4 t) (λ c κs. search needs) (λ c κs. search needs) (node-returns-5 t) (node-returns-6 t))
+    (λ t. parts-search-lts.spec (parts-claims t) (parts-search-at t) parts-search.Post (λ c κs. search needs) (parts-returns t) (λ c κs. search needs) (λ c κs. search needs) (parts-child-search-requires t) (λ c κs. search needs) (λ c. search needs) (λ c. search needs) (parts-returns-2 t) (λ c. search needs) (parts-parts-search-requires t) (parts-returns-3 t))
+    λ t. split-search-lts.spec (split-claims t) (split-search-at t) split-search.Post (λ c κs. search needs) (λ c κs. search needs) (λ c κs. search needs) (split-returns t) (split-parts-search-requires t) (split-returns-2 t)
