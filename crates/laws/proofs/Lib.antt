@@ -1,7 +1,6 @@
 pub mod Agrees
 pub mod Areas
 pub mod BackBounds
-pub mod BackRefusals
 pub mod BackSteps
 pub mod Backs
 pub mod Bounds

@@ -1,37 +1,28 @@
--- The way back of a node is its coding tree, read from the rows: it accepts exactly the rows of its trees, with the flags of these trees; rows
--- belong to one tree at most; and what it does not accept it refuses with 16, or it leaves rows.
+-- The way back of a node is its coding tree, read from the rows: it accepts exactly the rows of its trees, with the flags of these trees; and rows
+-- belong to one tree at most. What it does not accept: `SearchIsTree` (Searching.antt).
 use Prim.Native.Nat.{_+_, _≤_}
 use mathlib.Core.Path.{_≡_, refl, sym, ap, _∙_}
 use mathlib.Core.Bool.{true}
 use mathlib.Core.List.{List, [], _∷_, _++_, append-nil}
-use mathlib.Core.Logic.{_↔_}
 use Rattle.tree.specs.declared.Node.{Node}
 use Rattle.tree.specs.Kind.{Kind}
 use Rattle.tree.specs.Children.{cornerInside}
 use Rattle.tree.specs.Rows.{Row}
-use Rattle.tree.specs.Run.{End, goes, stops}
+use Rattle.tree.specs.Run.{goes}
 use Rattle.tree.specs.Reading.{levelsLeft}
 use Rattle.tree.specs.Back.{backNode}
 use Rattle.tree.specs.Tree.{Tree, flagsOf, rowsOf}
 use Rattle.laws.specs.Proper.{Proper}
 use Rattle.laws.specs.Good.{Good}
-use Rattle.laws.proofs.Tests.{never}
 use Rattle.laws.proofs.Runs.{gives}
 use Rattle.laws.proofs.Unique.{tree-unique}
 use Rattle.laws.proofs.Levels.{levels-left}
 use Rattle.laws.proofs.Backs.{Found, back-complete, back-sound}
-use Rattle.laws.proofs.BackRefusals.{BackFine, back-fine}
-
--- an end at which not all rows are taken: refusal 16, or rows that are left
-pub data Untaken : End (List Row) → Type 0 where
-  no-flags : Untaken (stops 16 0)
-  rows-left : {r : Row} {rows : List Row} → Untaken (goes (r ∷ rows))
 
 pub record TurningIsTree (k : Kind) (n : Node) : Type 0 where
   pub sound : (rows rest : List Row) → backNode k n rows .end ≡ goes rest → Found k (n ∷ []) rows (backNode k n rows .given) rest
   pub complete : (t : Tree k n) (rest : List Row) → backNode k n (rowsOf t ++ rest) ≡ gives (flagsOf t) rest
   pub rows-unique : (t u : Tree k n) → rowsOf t ≡ rowsOf u → t ≡ u
-  pub refused : (rows : List Row) → Untaken (backNode k n rows .end) ↔ ((t : Tree k n) → ¬ (rowsOf t ≡ rows))
 
 module _ {k : Kind} {n : Node} (v : Proper k) (g : Good (k .limits) n) (here : cornerInside (k .limits) n ≡ true) (fits : n .w + n .h + n .qt + n .mtt ≤ 256) where
   turned : (t : Tree k n) (rest : List Row) → backNode k n (rowsOf t ++ rest) ≡ gives (flagsOf t) rest
@@ -44,22 +35,9 @@ module _ {k : Kind} {n : Node} (v : Proper k) (g : Good (k .limits) n) (here : c
   unique : (t u : Tree k n) → rowsOf t ≡ rowsOf u → t ≡ u
   unique t u e = tree-unique t u (ap (λ r. r .given) (sym (turned-all t) ∙ ap (backNode k n) e ∙ turned-all u))
 
-  untaken : (rows : List Row) → ((t : Tree k n) → ¬ (rowsOf t ≡ rows)) → (end : End (List Row)) → backNode k n rows .end ≡ end → BackFine end → Untaken end
-  untaken rows no-tree (goes []) e p = let f = back-sound k (levelsLeft n) n here rows [] e in absurd (no-tree (f .trees) (sym (f .split ∙ append-nil (rowsOf (f .trees)))))
-  untaken rows no-tree (goes (r ∷ rest)) e p = rows-left
-  untaken rows no-tree (stops a b) e p = rw (p .0, p .1) no-flags
-
-  not-taken : {end : End (List Row)} → Untaken end → ¬ (end ≡ goes [])
-  not-taken no-flags e = never (cc)
-  not-taken rows-left e = never (cc)
-
   pub turning-is-tree : TurningIsTree k n
   turning-is-tree = record {
     sound = back-sound k (levelsLeft n) n here;
     complete = turned;
     rows-unique = unique;
-    refused = λ rows. (
-      λ u t e. not-taken u (ap (λ rows. backNode k n rows .end) (sym e) ∙ ap (λ r. r .end) (turned-all t)),
-      λ no-tree. untaken rows no-tree _ refl (back-fine k (levelsLeft n) n rows),
-    );
   }

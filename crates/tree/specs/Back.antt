@@ -63,7 +63,7 @@ decisionFrom l n r rows =
 
 -- ---- the way back
 
--- refusal 16: no flags give these rows
+-- no flags give these rows; where a table stops being a tree, and with which number, is found by a search (Search.antt)
 abbrev pub noFlags : Run ℕ (List Row)
 noFlags = refuse 16 0
 

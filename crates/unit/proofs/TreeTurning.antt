@@ -14,6 +14,7 @@ use Rattle.tree.specs.Search.{Fit, whole, stuck, fitNode}
 use Rattle.tree.specs.Tree.{Tree, flagsOf, rowsOf}
 use Rattle.laws.specs.Begins.{HasRows}
 use Rattle.laws.proofs.Runs.{gives}
+use Rattle.laws.proofs.Tests.{never}
 use Rattle.laws.proofs.Turning.{TurningIsTree}
 use Rattle.laws.proofs.Searching.{SearchIsTree}
 use Rattle.unit.specs.Writer.{fitEnd, flagsFrom}
@@ -33,6 +34,12 @@ module _ {k : Kind} {n : Node} (r : TurningIsTree k n) (q : SearchIsTree k n) wh
   -- the search is whole exactly where the way back goes on, so it need only be made where the way back stops
   back-whole : (rows rest : List Row) → backNode k n rows .end ≡ goes rest → fitNode k n rows ≡ whole rest
   back-whole rows rest e = let f = r .sound rows rest e in q .exactly rows rest .1 (f .trees, f .split)
+
+  pub stops-stuck : (rows : List Row) {number place : ℕ} → backNode k n rows .end ≡ stops number place → (rest : List Row) → ¬ (fitNode k n rows ≡ whole rest)
+  stops-stuck rows e rest w =
+      let h = q .exactly rows rest .0 w in
+      let g = ap (λ l. backNode k n l .end) (h .1) ∙ ap (λ x. x .end) (r .complete (h .0) rest) in
+      never (cc)
 
   pub end-by-back : (rows : List Row) → flagsFrom k n rows .end ≡ backEnd (length rows) (fitNode k n rows) (backNode k n rows .end)
   unfolding flagsFrom fitEnd

@@ -22,6 +22,7 @@ use Rattle.tree.proofs.Masks.{rights-back}
 use Rattle.blocks.specs.RowNumbers.{rowWord}
 use Rattle.laws.proofs.Runs.{gives}
 use Rattle.laws.proofs.SameRow.{same-row}
+use Rattle.laws.proofs.Searching.{search-is-tree}
 use Rattle.laws.proofs.Turning.{turning-is-tree}
 use Rattle.unit.specs.declared.Answer.{Answer}
 use Rattle.unit.specs.declared.Answer.the-variants.{Accepted}
@@ -46,7 +47,7 @@ module _ {l : Limits} {root : Node} (r : Rooted (luma l) root) where
     leaf-tested : flagsFrom (luma l) root (rowOf root ∷ []) ≡ gives (flagsFor (rightsOf (luma l) root) Leaf) []
     unfolding rightsOf children childrenFrom shares ownRows rowsOf flagsOf
     leaf-tested =
-        tree-turned (turning-is-tree (r .proper) (r .placed .good) (r .here) (r .placed .sum)) (node Leaf (r .here) within none none)
+        tree-turned (turning-is-tree (r .proper) (r .placed .good) (r .here) (r .placed .sum)) (search-is-tree (r .proper) (r .placed .good) (r .here) (r .placed .sum)) (node Leaf (r .here) within none none)
         ∙ ap (λ flags. gives flags []) (append-nil (flagsFor (rightsOf (luma l) root) Leaf))
 
     -- its flags by the number of its open splits

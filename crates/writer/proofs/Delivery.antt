@@ -1,44 +1,53 @@
--- What a walk of a whole tree answers is the end of the test: its refusal, or the count of its flags.
-use Prim.Native.Nat.{ℕ, _-_, _*_, _/_, _%_, _≤_}
-use mathlib.Core.Path.{_≡_, ap, subst, _∙_}
+-- What a walk of a whole tree answers, and the place that is found where it is refused, are the end of the test.
+use Prim.Native.Nat.{ℕ, zero, suc, _+_, _-_, _*_, _/_, _%_, _≤_, _<_}
+use mathlib.Core.Path.{_≡_, refl, sym, ap, ap₂, subst, _∙_}
 use mathlib.Core.List.{List, [], _∷_}
 use native.Mathlib.Omega.{arith}
 use lib.ListN.{length}
-use borrow.Author.Tests.{lt-ltb, le-ltb}
-use Rattle.tree.specs.Rows.{Row}
-use Rattle.tree.specs.Run.{Run, End, goes, stops}
-use Rattle.laws.proofs.BackRefusals.{BackFine}
+use borrow.Author.Tests.{lt-ltb, le-ltb, eq-eqb, ne-eqb}
+use Rattle.tree.specs.declared.Node.{Node}
+use Rattle.tree.specs.Kind.{Kind}
+use Rattle.tree.specs.Rows.{Row, rowsIn}
+use Rattle.tree.specs.Run.{End, goes, stops}
+use Rattle.tree.specs.Back.{backNode}
+use Rattle.tree.specs.Search.{Fit, whole, stuck, fitNode}
 use Rattle.laws.proofs.Tables.{rows-long}
+use Rattle.unit.specs.declared.Answer.the-variants.{Refused}
 use Rattle.unit.specs.Answers.{endAnswer}
-use Rattle.unit.specs.Writer.{noneLeft}
+use Rattle.unit.specs.Writer.{fitEnd}
+use Rattle.unit.proofs.TreeTurning.{backEnd}
 use Rattle.nodes.specs.State.{placeOf, givenOf, refusal}
 use Rattle.walks.specs.Walks.{Says, Done}
-use Rattle.back.specs.Walking.{Left, backWay}
-use Rattle.writer.specs.Delivery.{walkEnd}
+use Rattle.marks.specs.Table.{Left}
+use Rattle.back.specs.Walking.{backWay}
+use Rattle.writer.specs.Delivery.{walkEnd, stuckEnd}
 
-module _ (bytes : List ℕ) (answer count : ℕ) where
-  -- a walk that goes on: rows are left where its place is before the end
-  left-is : length bytes % 8 ≡ 0 → count ≤ 2048 → givenOf answer ≡ count → (left : List Row) → Left bytes (placeOf answer) left → walkEnd answer bytes ≡ endAnswer count (noneLeft (goes left))
-  unfolding walkEnd noneLeft
-  left-is whole few e [] l =
-      let n = ap length (l .from) ∙ rows-long (length bytes / 8 - placeOf answer / 8) bytes (placeOf answer / 8 * 8) in
-      rw (lt-ltb answer 9223372036854775808 (omega arith), le-ltb (placeOf answer) (length bytes) (omega arith), e)
-  left-is whole few e (r ∷ rows) l =
-      let n = ap length (l .from) ∙ rows-long (length bytes / 8 - placeOf answer / 8) bytes (placeOf answer / 8 * 8) in
-      rw (lt-ltb answer 9223372036854775808 (omega arith), lt-ltb (placeOf answer) (length bytes) (omega arith))
-
-  -- a walk that stops
-  stopped : (k p : ℕ) → (k ≡ 16) × (p ≡ 0) → answer ≡ refusal k p → walkEnd answer bytes ≡ endAnswer {S = List Row} count (stops k p)
+module _ (bytes : List ℕ) (answer count : ℕ) (f : Fit) where
+  -- a walk that takes the rows of a tree: rows are left where its place is before the end
+  left-is : length bytes % 8 ≡ 0 → givenOf answer ≡ count → (left : List Row) → Left bytes (placeOf answer) left → walkEnd answer bytes ≡ endAnswer count (backEnd (length bytes / 8) f (goes left))
   unfolding walkEnd
-  stopped k p is e = rw (e, is .0, is .1)
+  left-is whole-rows e [] l =
+      let n = ap length (l .from) ∙ rows-long (length bytes / 8 - placeOf answer / 8) bytes (placeOf answer / 8 * 8) in
+      rw (le-ltb (placeOf answer) (length bytes) (omega arith), e)
+  left-is whole-rows e (r ∷ rows) l =
+      let n = ap length (l .from) ∙ rows-long (length bytes / 8 - placeOf answer / 8) bytes (placeOf answer / 8 * 8) in
+      let p : placeOf answer / 8 ≡ length bytes / 8 - suc (length rows) = omega arith in
+      rw (lt-ltb (placeOf answer) (length bytes) (omega arith), p)
 
--- ---- a walk of a whole tree, from the first flag on
+  -- by how the walk ends
+  pub walk-goes : length bytes % 8 ≡ 0 → answer < 9223372036854775808 → (end : End (List Row)) → Says (backWay bytes) answer count end → walkEnd answer bytes ≡ endAnswer count (backEnd (length bytes / 8) f end)
+  unfolding Says
+  walk-goes whole-rows h (goes left) s = left-is whole-rows (s .0) left (s .1)
+  walk-goes whole-rows h (stops k p) s = absurd (omega arith)
 
-pub walk-end : (bytes : List ℕ) (run : Run ℕ (List Row)) {b z : List ℕ} {answer : ℕ} → Done (backWay bytes) run 0 b answer z → length bytes % 8 ≡ 0 → length (run .given) ≤ 2048 → BackFine (run .end)
-    → walkEnd answer bytes ≡ endAnswer (length (run .given)) (noneLeft (run .end))
-unfolding Says noneLeft
-walk-end bytes run {b} {z} {answer} done whole few fine = go (run .end) fine (subst (λ (i : ℕ). Says (backWay bytes) answer i (run .end)) (omega arith) (done .said))
-  where
-    go : (end : End (List Row)) → BackFine end → Says (backWay bytes) answer (length (run .given)) end → walkEnd answer bytes ≡ endAnswer (length (run .given)) (noneLeft end)
-    go (goes left) f s = left-is bytes answer (length (run .given)) whole few (s .0) left (s .1)
-    go (stops k p) f s = stopped bytes answer (length (run .given)) k p f s
+  -- a walk that stops: its end is the search's
+  pub walk-stops : count ≤ 2048 → 9223372036854775808 ≤ answer → (end : End (List Row)) → Says (backWay bytes) answer count end → (number place : ℕ) × (end ≡ stops number place)
+  unfolding Says
+  walk-stops few h (goes left) s = let g = s .0 in absurd (omega arith)
+  walk-stops few h (stops k p) s = (k, p, refl)
+
+-- the place that is found for rows that are stuck
+pub stuck-is : (bytes : List ℕ) (count leading left : ℕ) → left ≤ length bytes / 8 → leading ≡ length bytes / 8 - left → stuckEnd leading bytes ≡ endAnswer count (fitEnd (length bytes / 8) (stuck left))
+unfolding stuckEnd fitEnd
+stuck-is bytes count leading zero h e = rw (eq-eqb leading (length bytes / 8) (omega arith)) (ap (Refused 27) (omega arith))
+stuck-is bytes count leading (suc left) h e = rw (ne-eqb leading (length bytes / 8) (λ z. omega arith)) (ap (Refused 16) e)

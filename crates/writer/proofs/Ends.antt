@@ -1,26 +1,19 @@
 -- The ends of a way back, over plain values: each way in which the code answers is what the delivery says.
 use Prim.Native.Nat.{ℕ, _≤_, _<_}
-use mathlib.Core.Path.{_≡_, refl, sym, ap, _∙_}
-use mathlib.Core.Bool.{Bool, true, false, not, cond}
+use mathlib.Core.Path.{_≡_, refl, _∙_}
+use mathlib.Core.Bool.{Bool, true, false, not}
 use mathlib.Core.List.{List, [], _∷_}
 use native.Mathlib.Omega.{arith}
-use lib.Dec.{ltb}
 use lib.ListN.{length, set}
 use lib.Seq.{sets-eq}
 use borrow.Author.Tests.{lt-ltb, le-ltb, not-true, not-false}
-use denote.Enum
 use Rattle.tree.specs.Splits.{rightsIn}
 use Rattle.tree.specs.Flags.{someOpen, flagsFor}
 use Rattle.blocks.specs.Copies.{copied}
 use Rattle.blocks.proofs.Pastes.{copied-all}
 use Rattle.unit.specs.declared.Answer.the-variants.{Accepted, Refused}
 use Rattle.unit.specs.Answers.{Meets, deliver}
-use Rattle.nodes.specs.declared.state.Child.{Child}
-use Rattle.nodes.specs.declared.state.Child.the-variants as child
-use Rattle.nodes.proofs.state.Child as C
-use Rattle.nodes.specs.State.{placeOf, givenOf, refusalNumber, refusalPlace}
-use Rattle.walks.proofs.Apart.{was-walked}
-use Rattle.writer.specs.Delivery.{leafFlags, deliverLeaf, walkEnd, deliverFlags}
+use Rattle.writer.specs.Delivery.{leafFlags, deliverLeaf, deliverFlags}
 
 -- ---- a root that is a leaf
 
@@ -46,39 +39,6 @@ module _ (splits : ℕ) {some : Bool} (e : some ≡ someOpen (rightsIn false spl
     pub leaf-done : (length b ≡ 0 → ⊥) → Meets (deliverLeaf splits b) (Accepted 1) (set b 0 0)
     unfolding flagsFor deliver
     leaf-done h = rw (← e, not-false some y, le-ltb (length b) 1 (omega arith)) (record { answers = refl; leaves = sets-eq (0 ∷ []) b 0 (omega arith) })
-
--- ---- the number that a walk answers
-
--- a number that is not of a walk that goes on
-refused-only : (t : Bool) (answer : ℕ) → denote.Enum.Declared.tagOf C.the-type (cond t (child.Walked answer) (child.Refused answer)) ≡ 1 → t ≡ false
-refused-only true answer e = absurd (omega arith)
-refused-only false answer e = refl
-
-module _ (answer : ℕ) (w : Child) (apart : w ≡ cond (ltb answer 9223372036854775808) (child.Walked answer) (child.Refused answer)) (rows : List ℕ) where
-  pub end-stop : denote.Enum.Declared.tagOf C.the-type w ≡ 1 → (number place : ℕ) → number ≡ refusalNumber answer → place ≡ refusalPlace answer
-      → Refused number place ≡ walkEnd answer rows
-  unfolding walkEnd
-  end-stop tag number place e f =
-      let h = refused-only (ltb answer 9223372036854775808) answer (sym (ap (denote.Enum.Declared.tagOf C.the-type) apart) ∙ tag) in
-      rw (h, e, f)
-
-  module _ (end : ℕ) (read : w ≡ child.Walked end) (at : ℕ) (at-is : at ≡ placeOf end) where
-    read-is : (end ≡ answer) × (answer < 9223372036854775808)
-    read-is = was-walked answer apart read
-
-    on : ltb answer 9223372036854775808 ≡ true
-    on = lt-ltb _ _ (read-is .1)
-
-    at-place : placeOf answer ≡ at
-    at-place = sym (at-is ∙ ap (λ c. placeOf c) (read-is .0))
-
-    pub end-left : at < length rows → Refused 16 0 ≡ walkEnd answer rows
-    unfolding walkEnd
-    end-left h = rw (on, at-place, lt-ltb _ _ h)
-
-    pub end-all : length rows ≤ at → (n : ℕ) → n ≡ givenOf end → Accepted n ≡ walkEnd answer rows
-    unfolding walkEnd
-    end-all all n e = rw (on, at-place, le-ltb _ _ all, e, read-is .0)
 
 -- ---- the flags of a scratch table
 

@@ -1,6 +1,6 @@
 -- The test and the way back of a whole table, from its root.
-use Prim.Native.Nat.{ℕ, _+_, _/_, _%_, _≤_}
-use mathlib.Core.Path.{_≡_, refl, sym, ap, _∙_}
+use Prim.Native.Nat.{ℕ, _+_, _-_, _/_, _%_, _≤_, _<_}
+use mathlib.Core.Path.{_≡_, refl, sym, ap, subst, _∙_}
 use mathlib.Core.List.{List}
 use native.Mathlib.Nat.{mul-le-mul}
 use native.Mathlib.Omega.{arith}
@@ -11,23 +11,26 @@ use Rattle.tree.specs.declared.Node.{Node}
 use Rattle.tree.specs.declared.Direction.the-variants.{Horizontal, Vertical}
 use Rattle.tree.specs.Kind.{luma}
 use Rattle.tree.specs.Rows.{Row, rowsIn}
-use Rattle.tree.specs.Run.{Run, goes, refuse}
-use Rattle.tree.specs.Reading.{levelsLeft}
+use Rattle.tree.specs.Run.{Run, End, goes, stops, refuse}
 use Rattle.tree.specs.Back.{backNode}
+use Rattle.tree.specs.Search.{Fit, whole, stuck, fitNode}
 use Rattle.laws.specs.Areas.{roomOf}
 use Rattle.laws.proofs.BackBounds.{back-bound}
-use Rattle.laws.proofs.BackRefusals.{back-fine}
+use Rattle.laws.proofs.Searching.{SearchIsTree, search-is-tree}
+use Rattle.laws.proofs.Tables.{rows-long}
+use Rattle.laws.proofs.Turning.{TurningIsTree, turning-is-tree}
 use Rattle.unit.specs.declared.Answer.{Answer}
 use Rattle.unit.specs.declared.Answer.the-variants.{Accepted, Refused}
-use Rattle.unit.specs.Answers.{Meets, deliver, finishEnd, answerOf}
-use Rattle.unit.specs.Writer.{flagsFrom, testRows, writeRows}
+use Rattle.unit.specs.Answers.{Meets, deliver, finishEnd, endAnswer, answerOf}
+use Rattle.unit.specs.Writer.{fitEnd, flagsFrom, testRows, writeRows}
 use Rattle.unit.proofs.Accepts.{answer-stops, answer-goes}
+use Rattle.unit.proofs.TreeTurning.{backEnd, end-by-back, stops-stuck}
 use Rattle.nodes.specs.State.{givenOf}
 use Rattle.walks.specs.Rooted.{Rooted}
-use Rattle.walks.specs.Walks.{Done}
+use Rattle.walks.specs.Walks.{Says, Done}
 use Rattle.back.specs.Walking.{backWay}
-use Rattle.writer.specs.Delivery.{walkEnd, deliverFlags, InScratch}
-use Rattle.writer.proofs.Delivery.{walk-end}
+use Rattle.writer.specs.Delivery.{walkEnd, stuckEnd, deliverFlags, InScratch}
+use Rattle.writer.proofs.Delivery.{walk-goes, walk-stops, stuck-is}
 
 module _ (l : Limits) (root : Node) (bytes : List ℕ) where
   -- 15
@@ -66,19 +69,59 @@ module _ (l : Limits) (root : Node) (bytes : List ℕ) where
         let f : take n scratch ≡ tested .given = rw (c .0) at (kept .flags) in
         rw (c .2, c .0) (rw f at m)
 
--- what the walk of the root answers is the test's end, and the scratch table has its flags
-pub root-kept : {l : Limits} {root : Node} → Rooted (luma l) root → (bytes : List ℕ) → length bytes % 8 ≡ 0 → {b z : List ℕ} {answer : ℕ} → Done (backWay bytes) (backNode (luma l) root (rowsIn bytes)) 0 b answer z
-    → {said : Answer} → said ≡ walkEnd answer bytes → InScratch (testRows (luma l) root bytes) said z
-unfolding testRows flagsFrom roomOf
-root-kept {l} {root} r bytes whole {b} {z} done e =
-    let run = backNode (luma l) root (rowsIn bytes) in
-    let a = mul-le-mul (r .placed .good .shape .side Vertical .most) (r .placed .good .shape .side Horizontal .most) in
-    let q = back-bound (r .proper) (r .placed .good) (r .placed .sum) (rowsIn bytes) .flags in
-    let few : length (run .given) ≤ 2048 = omega arith in
-    let i : length (run .given) ≡ givenOf 0 + length (run .given) = omega arith in
-    rw (eq-eqb _ _ whole)
-    (record {
-      answers = e ∙ walk-end bytes run done whole few (back-fine (luma l) (levelsLeft root) root (rowsIn bytes));
-      flags = ap (λ (n : ℕ). take n z) i ∙ done .given;
-      few = few;
-    })
+-- ---- what the walk of the root answers, and what the search finds, are the test's end, and the scratch table has its flags
+
+module _ {l : Limits} {root : Node} (r : Rooted (luma l) root) (bytes : List ℕ) (whole-rows : length bytes % 8 ≡ 0) {b z : List ℕ} {answer : ℕ} (done : Done (backWay bytes) (backNode (luma l) root (rowsIn bytes)) 0 b answer z) where
+  abbrev run : Run ℕ (List Row)
+  run = backNode (luma l) root (rowsIn bytes)
+
+  abbrev found : Fit
+  found = fitNode (luma l) root (rowsIn bytes)
+
+  turning : TurningIsTree (luma l) root
+  turning = turning-is-tree (r .proper) (r .placed .good) (r .here) (r .placed .sum)
+
+  searching : SearchIsTree (luma l) root
+  searching = search-is-tree (r .proper) (r .placed .good) (r .here) (r .placed .sum)
+
+  few-flags : length (run .given) ≤ 2048
+  unfolding roomOf
+  few-flags =
+      let a = mul-le-mul (r .placed .good .shape .side Vertical .most) (r .placed .good .shape .side Horizontal .most) in
+      let q = back-bound (r .proper) (r .placed .good) (r .placed .sum) (rowsIn bytes) .flags in
+      omega arith
+
+  all-rows : length (rowsIn bytes) ≡ length bytes / 8
+  all-rows = rows-long (length bytes / 8) bytes 0
+
+  says : Says (backWay bytes) answer (length (run .given)) (run .end)
+  says = subst (λ (i : ℕ). Says (backWay bytes) answer i (run .end)) (omega arith) (done .said)
+
+  kept : {said : Answer} → said ≡ endAnswer (length (run .given)) (backEnd (length bytes / 8) found (run .end)) → InScratch (testRows (luma l) root bytes) said z
+  unfolding testRows flagsFrom
+  kept e =
+      let i : length (run .given) ≡ givenOf 0 + length (run .given) = omega arith in
+      rw (eq-eqb _ _ whole-rows)
+      (record {
+        answers = e ∙ ap (endAnswer (length (run .given))) (ap (λ (n : ℕ). backEnd n found (run .end)) (sym all-rows) ∙ sym (end-by-back turning searching (rowsIn bytes)));
+        flags = ap (λ (n : ℕ). take n z) i ∙ done .given;
+        few = few-flags;
+      })
+
+  -- the walk goes through
+  pub root-walked : answer < 9223372036854775808 → {said : Answer} → said ≡ walkEnd answer bytes → InScratch (testRows (luma l) root bytes) said z
+  root-walked h e = kept (e ∙ walk-goes bytes answer (length (run .given)) found whole-rows h (run .end) says)
+
+  -- it is refused, and the search finds how many rows lead
+  pub root-refused : 9223372036854775808 ≤ answer → {leading : ℕ} → ((left : ℕ) → found ≡ stuck left → leading ≡ length bytes / 8 - left) → {said : Answer} → said ≡ stuckEnd leading bytes
+      → InScratch (testRows (luma l) root bytes) said z
+  root-refused h {leading} leads {said} e =
+      let s = walk-stops bytes answer (length (run .given)) found few-flags h (run .end) says in
+      kept (subst (λ (end : End (List Row)). said ≡ endAnswer (length (run .given)) (backEnd (length bytes / 8) found end)) (sym (s .2)) (go (s .2) found refl))
+    where
+      go : {number place : ℕ} → run .end ≡ stops number place → (f : Fit) → found ≡ f → said ≡ endAnswer (length (run .given)) (fitEnd (length bytes / 8) f)
+      go stopped (whole rest) is = absurd (stops-stuck turning searching (rowsIn bytes) stopped rest is)
+      go stopped (stuck left) is =
+          let w = searching .within (rowsIn bytes) left is in
+          let n = all-rows in
+          e ∙ stuck-is bytes (length (run .given)) leading left (omega arith) (leads left is)

@@ -1,5 +1,5 @@
--- The end of a way back as the code takes it: from a root that is a leaf, and from the number that a walk answers.
-use Prim.Native.Nat.{ℕ, _≤_}
+-- The end of a way back as the code takes it: from a root that is a leaf, from the number that a walk answers, and from the place that is found for a refusal.
+use Prim.Native.Nat.{ℕ, _/_, _≤_}
 use mathlib.Core.Path.{_≡_}
 use mathlib.Core.Bool.{Bool, false, _&&_, cond}
 use mathlib.Core.List.{List, _++_}
@@ -16,7 +16,7 @@ use Rattle.tree.specs.Back.{sameRow}
 use Rattle.unit.specs.declared.Answer.{Answer}
 use Rattle.unit.specs.declared.Answer.the-variants.{Accepted, Refused}
 use Rattle.unit.specs.Answers.{Outcome, refused, deliver, answerOf}
-use Rattle.nodes.specs.State.{placeOf, givenOf, refusalNumber, refusalPlace}
+use Rattle.nodes.specs.State.{placeOf, givenOf}
 
 -- the bytes are one row, the root's own, and the root lies inside the picture: it is a leaf
 abbrev pub leafAlone : Limits → Node → List ℕ → Bool
@@ -30,12 +30,13 @@ leafFlags splits = flagsFor (rightsIn false splits) Leaf
 abbrev pub deliverLeaf : ℕ → List ℕ → Outcome
 deliverLeaf splits buffer = deliver 17 (length (leafFlags splits)) (leafFlags splits) buffer
 
--- what the number that a walk answers says of the rows: a refusal, 16 too where rows are left, or the count of flags
+-- the end of a walk that takes the rows of a tree: 28 where rows are left, or the count of flags
 unfoldable pub walkEnd : ℕ → List ℕ → Answer
-walkEnd answer rows =
-    cond (ltb answer 9223372036854775808)
-    (cond (ltb (placeOf answer) (length rows)) (Refused 16 0) (Accepted (givenOf answer)))
-    (Refused (refusalNumber answer) (refusalPlace answer))
+walkEnd end rows = cond (ltb (placeOf end) (length rows)) (Refused 28 (placeOf end / 8)) (Accepted (givenOf end))
+
+-- the end of rows that no walk takes, of which so many lead: 27 where these are all, else 16
+unfoldable pub stuckEnd : ℕ → List ℕ → Answer
+stuckEnd leading rows = cond (eqb leading (length rows / 8)) (Refused 27 leading) (Refused 16 leading)
 
 -- the first flags of a scratch table into a buffer; 17 where it is too short
 unfoldable pub deliverFlags : ℕ → List ℕ → List ℕ → Outcome

@@ -1,4 +1,4 @@
-// The way back of a single unit: rows become the flags that give them, or document 01's refusals 1 to 10 and 15 to 17.
+// The way back of a single unit: rows become the flags that give them, or refusals 1 to 10, 15, 27, 28, 16 and 17.
 // It is a test, which can be called alone, and the delivery of the flags.
 mod deliver;
 mod test;

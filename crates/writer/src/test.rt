@@ -1,4 +1,5 @@
-// The way back's test: whether some flags give the rows of a unit, with document 01's refusals 1 to 10, 15 and 16.
+// The way back's test: whether some flags give the rows of a unit, with document 01's refusals 1 to 10 and 15, and 27, 28
+// and 16 where no flags do.
 use flags::Scratch;
 use flags::some_open;
 use marks::same_row;
@@ -16,7 +17,7 @@ ghost use Rattle.tree.specs.Splits.{rightsOf, openSplits};
 ghost use Rattle.unit.specs.Answers.{answerOf};
 ghost use Rattle.unit.specs.Writer.{testRows, testUnit};
 ghost use Rattle.walks.specs.Rooted.{Rooted};
-ghost use Rattle.writer.specs.Delivery.{leafAlone, leafFlags, walkEnd, InScratch};
+ghost use Rattle.writer.specs.Delivery.{leafAlone, leafFlags, walkEnd, stuckEnd, InScratch};
 
 // Whether the only row is the root's own, and the root lies inside the picture: then it is a leaf.
 pub(crate) fn is_leaf(l: Limits, root: Node, rows: &[u8]) -> bool
@@ -52,20 +53,29 @@ fn leaf_count(splits: u32) -> usize
     if some_open(splits) { 1 } else { 0 }
 }
 
-// What a walk that answered a number says of the rows.
-fn walk_end(answer: u64, rows: &[u8]) -> Answer
-    ensures { λ r. ⌜ r ≡ walkEnd answer (now (rows .entry)) ⌝ }
+// The end of a walk that takes the rows of a tree: 28 where rows are left, or the number of their flags.
+fn walk_end(end: u64, rows: &[u8]) -> Answer
+    ensures { λ r. ⌜ r ≡ walkEnd end (now (rows .entry)) ⌝ }
 {
-    let Child::Walked(end) = nodes::child_answer(answer) else {
-        return Answer::Refused(nodes::refusal_number(answer), nodes::refusal_place(answer));
-    };
-    if nodes::place(end) < rows.len() {
-        return Answer::Refused(16, 0);
+    let at = nodes::place(end);
+    if at < rows.len() {
+        return Answer::Refused(28, at / 8);
     }
     Answer::Accepted(nodes::count(end))
 }
 
-// The test of whole rows by a walk: 16, or the number of their flags, which the scratch table then begins with.
+// The end of rows that no walk takes, of which so many lead: 27 where these are all, else 16.
+fn stuck_end(leading: usize, rows: &[u8]) -> Answer
+    ensures { λ r. ⌜ r ≡ stuckEnd leading (now (rows .entry)) ⌝ }
+{
+    if leading == rows.len() / 8 {
+        return Answer::Refused(27, leading);
+    }
+    Answer::Refused(16, leading)
+}
+
+// The test of whole rows by a walk and, where that is refused, by a search for the place: 27, 28 or 16, or the number of
+// their flags, which the scratch table then begins with.
 pub(crate) fn test_all(l: Limits, root: Node, rows: &[u8], scratch: &mut Scratch) -> Answer
     requires { ⌜ Rooted (luma l) root × (length (now rows) % 8 ≡ 0) × (length (now scratch) ≡ 2048) ⌝ }
     ensures { λ r. ⌜ InScratch (testRows (luma l) root (now (rows .entry))) r (now (scratch .exit)) ⌝ }
@@ -73,11 +83,15 @@ pub(crate) fn test_all(l: Limits, root: Node, rows: &[u8], scratch: &mut Scratch
     let u = nodes::luma_table(l);
     let splits = splits::open_splits(l, root);
     let row = blocks::row_word(root);
-    let answer = back::tree_back(&u, rows, scratch, row, splits::out(l, root), splits);
-    walk_end(answer, rows)
+    let out = splits::out(l, root);
+    let answer = back::tree_back(&u, rows, scratch, row, out, splits);
+    let Child::Walked(end) = nodes::child_answer(answer) else {
+        return stuck_end(search::leading_rows(&u, rows, row, out, splits), rows);
+    };
+    walk_end(end, rows)
 }
 
-// The test of a table, refusals 15 and 16; a root that is a leaf needs no walk.
+// The test of a table, refusals 15, 27, 28 and 16; a root that is a leaf needs no walk.
 fn test_rows(l: Limits, root: Node, rows: &[u8]) -> Answer
     requires { ⌜ Rooted (luma l) root ⌝ }
     ensures { λ r. ⌜ r ≡ answerOf (testRows (luma l) root (now (rows .entry))) ⌝ }
