@@ -1,9 +1,11 @@
-//! The way back by brute force: every tree of a small unit.
+//! The way back by brute force: every tree of a small unit, and where other tables leave them.
 //!
 //! It knows nothing of splits. It feeds a reader ever longer strings of flags, and learns from the
 //! refusal 11 that the tree is not yet whole.
 
-use std::collections::HashMap;
+use std::collections::{HashMap, HashSet};
+
+use crate::Answer;
 
 /// Every table of a unit, with the flags that give it.
 pub type Trees = HashMap<Vec<u8>, Vec<u8>>;
@@ -18,10 +20,7 @@ const ROW_BYTES: usize = 8 * crate::MAX_ROWS;
 /// # Panics
 ///
 /// Where two strings of flags give the same rows, or a reader refuses with another number than 11.
-pub fn all_trees(
-    limit: usize,
-    mut read: impl FnMut(&[u8], &mut [u8]) -> crate::Answer,
-) -> Option<Trees> {
+pub fn all_trees(limit: usize, mut read: impl FnMut(&[u8], &mut [u8]) -> Answer) -> Option<Trees> {
     let mut trees = Trees::new();
     let mut rows = vec![0; ROW_BYTES];
     let mut open = vec![Vec::new()];
@@ -43,4 +42,32 @@ pub fn all_trees(
         }
     }
     Some(trees)
+}
+
+/// The tables of a unit and every number of leading rows of each.
+pub struct Beginnings<'a> {
+    trees: &'a Trees,
+    beginnings: HashSet<&'a [u8]>,
+}
+
+impl<'a> Beginnings<'a> {
+    /// The beginnings of these tables, the whole tables and the empty one among them.
+    pub fn of(trees: &'a Trees) -> Self {
+        let ends = |table: &'a Vec<u8>| (0..=table.len()).step_by(8).map(|end| &table[..end]);
+        Self { trees, beginnings: trees.keys().flat_map(ends).collect() }
+    }
+
+    /// Refusal 27, 28 or 16 of whole rows that are none of the tables, as document 02 says it.
+    pub fn refusal(&self, rows: &[u8]) -> Answer {
+        let leading = |count: usize| &rows[..8 * count];
+        let count = rows.len() / 8;
+        if self.beginnings.contains(rows) {
+            return (27, count as u64);
+        }
+        if let Some(whole) = (0..count).find(|&whole| self.trees.contains_key(leading(whole))) {
+            return (28, whole as u64);
+        }
+        let begun = (0..count).filter(|&begun| self.beginnings.contains(leading(begun)));
+        (16, begun.max().expect("every table begins with no rows") as u64)
+    }
 }

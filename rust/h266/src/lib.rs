@@ -5,8 +5,9 @@
 //! Each node is a [`Node`], its splits are [`Allowed::of`] it, and one recursion in each direction
 //! walks the tree, so that it can be held beside the clauses. It is the other side of the
 //! differential tests and, as safe Rust without special tricks, the yardstick of the benchmark.
-//! [`Board`], which takes tables as the customer's board does, is written from document 02, and
-//! [`page()`] from the paragraph that asks for the partition page.
+//! [`Board`], which takes tables as the customer's board does, [`page()`], the partition page, and
+//! [`stop()`], which says where a table stops being a tree, are written from the paragraphs of
+//! document 02 that ask for them.
 //!
 //! The calls make the same promises as the engine's C interface. An answer is a pair: 0 and a
 //! count where the call is accepted, else the number of the refusal and its place. A refused call
@@ -40,6 +41,7 @@ mod refusal;
 mod row;
 mod session;
 mod split;
+mod stop;
 mod worth;
 mod write;
 
@@ -54,6 +56,7 @@ pub use refusal::{Answer, Refusal};
 pub use row::{rows, Row};
 pub use session::{open, unit, unit_count};
 pub use split::Split;
+pub use stop::stop;
 pub use worth::greatest_worth;
 pub use write::write_flags;
 

@@ -10,7 +10,8 @@ const LINE_BYTES: usize = 33;
 
 /// Prints the rows of a unit, a line for each, where some tree gives them.
 ///
-/// Accepted: `(0, bytes written)`. Refused: a number from 1 to 10, 15, 16 or 23 and its place.
+/// Accepted: `(0, bytes written)`. Refused: a number from 1 to 10, 15, 27, 28, 16 or 23 and its
+/// place.
 ///
 /// ```
 /// let settings = [64, 4, 8, 3, 32, 32, 64, 64];

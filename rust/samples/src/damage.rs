@@ -1,6 +1,6 @@
 //! Damage to flags and tables.
 
-use crate::Rng;
+use crate::{broken, Rng};
 
 /// Changes flags in one small way. The result may by chance be legal.
 pub fn flags(rng: &mut Rng, flags: &mut Vec<u8>) {
@@ -27,12 +27,12 @@ pub fn rows(rng: &mut Rng, rows: &mut Vec<u8>) {
     match rng.below(9) {
         0 => rows[8 * row + rng.below(8)] ^= 1 << rng.below(8),
         1 => rows[8 * row + 4 + rng.below(4)] = rng.pick(&[0, 1, 2, 3, 6, 7, 8, 9, 255]),
-        2 => (0..8).for_each(|i| rows.swap(8 * row + i, 8 * other + i)),
+        2 => *rows = broken::exchanged(rows, row, other),
         3 => rows.truncate(8 * row),
         4 => rows.truncate(8 * row + 1 + rng.below(7)),
         5 => rows.extend_from_within(8 * row..8 * row + 8),
         6 => rows.extend(vec![0; 1 + rng.below(8)]),
-        7 => drop(rows.drain(8 * row..8 * row + 8)),
+        7 => *rows = broken::left_out(rows, row),
         _ => shift_depth(rng, rows, row),
     }
 }

@@ -1,9 +1,10 @@
 //! Inputs for the tests and the benchmark.
 //!
 //! Settings, legal trees of several styles, and damage to flags and tables come from a small
-//! generator with a fixed seed, so that every run sees the same inputs; the examples are those of
-//! document 01, the units with the most flags, and one with the deepest rows. Trees are walked with
-//! the allowed splits of the crate `h266`; the engine is not needed here.
+//! generator with a fixed seed, so that every run sees the same inputs; `broken` lists every table
+//! that one small change makes of another, `small` settings with few trees. The examples are those
+//! of document 01, the units with the most flags, and one with the deepest rows. Trees are walked
+//! with the allowed splits of the crate `h266`; the engine is not needed here.
 //!
 //! ```
 //! use samples::{trees, Rng, Style};
@@ -16,12 +17,14 @@
 #![forbid(unsafe_code)]
 #![warn(missing_docs)]
 
+pub mod broken;
 pub mod damage;
 pub mod deepest;
 pub mod longest;
 pub mod paper;
 mod rng;
 pub mod settings;
+pub mod small;
 pub mod trees;
 
 pub use rng::Rng;

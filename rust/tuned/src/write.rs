@@ -7,7 +7,7 @@
 use std::cell::RefCell;
 
 use h266::check::unit_root;
-use h266::{Allowed, Answer, Node, Params, Refusal, Settings, Split, MAX_ROWS};
+use h266::{stop, Allowed, Answer, Node, Params, Refusal, Settings, Split, MAX_ROWS};
 
 use crate::block::Block;
 use crate::join::Splits;
@@ -46,14 +46,15 @@ impl Table<'_> {
 
 /// Writes the flags that give exactly these rows.
 ///
-/// Accepted: `(0, flags written)`. Refused: a number from 1 to 10 or 15 to 17 and its place.
+/// Accepted: `(0, flags written)`. Refused: a number from 1 to 10, 15, 27, 28, 16 or 17 and its
+/// place; where a table stops being a tree, `h266` says.
 pub fn write_flags(settings: &Settings, address: u64, rows: &[u8], flags: &mut [u8]) -> Answer {
     let result = unit_root(settings, address)
         .and_then(|(params, root)| write_tree(&params, root, rows, flags));
     Refusal::answer(result)
 }
 
-/// Writes the tree under a root: refusals 15 to 17.
+/// Writes the tree under a root: refusals 15, 27, 28, 16 and 17.
 fn write_tree(
     params: &Params,
     root: Node,
@@ -65,7 +66,7 @@ fn write_tree(
         return Err(Refusal::new(15, rows.len()));
     }
     if rows.len() > MAX_ROWS {
-        return Err(Refusal::new(16, 0));
+        return Err(stop(params, &root, rows));
     }
     SCRATCH.with_borrow_mut(|scratch| {
         let Scratch { flags: found, splits } = scratch;
@@ -81,7 +82,7 @@ fn write_tree(
         let walked = writer.coding_tree(&root);
         let (at, count) = (writer.at, writer.count);
         if walked.is_none() || at < rows.len() {
-            return Err(Refusal::new(16, 0));
+            return Err(stop(params, &root, rows));
         }
         let lent = flags.get_mut(..count).ok_or(Refusal::new(17, count))?;
         lent.copy_from_slice(&found[..count]);

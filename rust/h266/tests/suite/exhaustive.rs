@@ -1,6 +1,6 @@
 //! Small units: every tree, and tables that no tree gives.
 
-use h266::brute::{all_trees, Trees};
+use h266::brute::{all_trees, Beginnings, Trees};
 use h266::{read_unit, write_flags, Params, Settings};
 use samples::{damage, settings, Rng};
 
@@ -9,6 +9,7 @@ const LIMIT: usize = 2_000;
 /// Every tree turns back into its flags; damaged tables only if they are another tree's.
 fn check_unit(rng: &mut Rng, settings: &Settings, address: u64, trees: &Trees) {
     let mut buffer = [0; 8192];
+    let beginnings = Beginnings::of(trees);
     for (rows, flags) in trees {
         let answer = write_flags(settings, address, rows, &mut buffer);
         assert_eq!(answer, (0, flags.len() as u64));
@@ -18,7 +19,7 @@ fn check_unit(rng: &mut Rng, settings: &Settings, address: u64, trees: &Trees) {
         let expected = match trees.get(&other) {
             Some(flags) => (0, flags.len() as u64),
             None if other.len() % 8 != 0 => (15, other.len() as u64 / 8),
-            None => (16, 0),
+            None => beginnings.refusal(&other),
         };
         assert_eq!(write_flags(settings, address, &other, &mut buffer), expected, "{other:?}");
     }

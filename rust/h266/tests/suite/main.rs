@@ -6,6 +6,7 @@ mod page;
 mod paper;
 mod pipeline;
 mod random;
+mod stop;
 mod worth;
 
 use h266::Row;

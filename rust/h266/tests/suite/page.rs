@@ -108,8 +108,11 @@ fn refusals_in_order() {
         refused(&A, 1, &rows[..31], room, (10, 0));
         refused(&LARGEST, 262_144, &rows, room, (10, 0));
         refused(&A, 0, &rows[..31], room, (15, 3));
-        refused(&A, 0, &rows[..24], room, (16, 0));
-        refused(&A, 0, &[], room, (16, 0));
+        refused(&A, 0, &rows[..24], room, (27, 3));
+        refused(&A, 0, &[], room, (27, 0));
+        refused(&A, 0, &[&rows[..], &rows].concat(), room, (28, 4));
+        refused(&A, 0, &rows[8..], room, (16, 0));
+        refused(&A, 0, &[&rows[..16], &rows[24..]].concat(), room, (16, 2));
     }
     for room in [0, 1, 33, 131] {
         refused(&A, 0, &rows, room, (23, 132));

@@ -1,6 +1,7 @@
 //! The checked examples of document 01.
 
 use h266::{open, read_unit, unit, write_flags, Settings};
+use samples::broken;
 use samples::paper::{examples, Example, A};
 
 /// P2, whose second row's bytes the document gives.
@@ -44,19 +45,22 @@ fn p1_to_p7() {
 fn p8_to_p10() {
     refused(&A, &[], 100, (11, 0));
     refused(&A, &[0, 0], 100, (13, 1));
-    assert_eq!(write_flags(&A, 0, &[], &mut []), (16, 0));
+    assert_eq!(write_flags(&A, 0, &[], &mut []), (27, 0));
 }
 
 #[test]
 fn examples_of_the_test_program() {
     refused(&A, &[2], 100, (12, 0));
     refused(&A, &[1, 0, 0, 0], 100, (11, 4));
-    let Example { flags, mut rows, .. } = p2();
+    let Example { flags, rows, .. } = p2();
     refused(&A, flags, 31, (14, 4));
     assert_eq!(read_unit(&A, 0, flags, &mut [0; 32]), (0, 4));
-    rows[..16].rotate_left(8);
-    let exchanged = rows;
-    assert_eq!(write_flags(&A, 0, &exchanged, &mut [0; 100]), (16, 0));
+    // The quarters have a fixed order, so the first of two exchanged rows fits no tree.
+    for (first, second) in [(0, 1), (0, 2), (0, 3), (1, 2), (1, 3), (2, 3)] {
+        let exchanged = broken::exchanged(&rows, first, second);
+        let answer = write_flags(&A, 0, &exchanged, &mut [0; 100]);
+        assert_eq!(answer, (16, first as u64), "{first} and {second}");
+    }
     let mut due = 3;
     assert_eq!(open(&[64, 4, 8, 3, 32, 32, 68, 64], &mut due), (7, 0));
     assert_eq!(open(&[64, 4, 16, 0, 32, 32, 72, 64], &mut due), (9, 0));
@@ -70,7 +74,13 @@ fn way_back_refusals() {
     let table = p2().rows;
     assert_eq!(write_flags(&A, 1, &table, &mut [0; 5]), (10, 0));
     assert_eq!(write_flags(&A, 0, &table[..31], &mut [0; 5]), (15, 3));
-    assert_eq!(write_flags(&A, 0, &table[..24], &mut [0; 5]), (16, 0));
+    for rows in 0..4 {
+        let answer = write_flags(&A, 0, &table[..8 * rows], &mut [0; 5]);
+        assert_eq!(answer, (27, rows as u64));
+    }
+    for more in [&table[..8], &table, &[0xff; 9_000]] {
+        assert_eq!(write_flags(&A, 0, &[&table, more].concat(), &mut [0; 5]), (28, 4));
+    }
     let mut short = [7; 4];
     assert_eq!(write_flags(&A, 0, &table, &mut short), (17, 5));
     assert_eq!(short, [7; 4]);

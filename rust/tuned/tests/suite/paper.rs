@@ -22,7 +22,7 @@ fn p8_to_p10() {
     let rows = &mut [0xa5; 100];
     assert_eq!(read_unit(&A, 0, &[], rows), (11, 0));
     assert_eq!(read_unit(&A, 0, &[0, 0], rows), (13, 1));
-    assert_eq!(write_flags(&A, 0, &[], rows), (16, 0));
+    assert_eq!(write_flags(&A, 0, &[], rows), (27, 0));
     assert_eq!(*rows, [0xa5; 100]);
 }
 
@@ -34,8 +34,10 @@ fn examples_of_the_test_program() {
     assert_eq!(read_unit(&A, 0, &[1, 0, 0, 0], rows), (11, 4));
     assert_eq!(read_unit(&A, 0, flags, &mut rows[..31]), (14, 4));
     assert_eq!(write_flags(&A, 0, &table, &mut rows[..4]), (17, 5));
-    table[..16].rotate_left(8);
-    assert_eq!(write_flags(&A, 0, &table, rows), (16, 0));
+    assert_eq!(write_flags(&A, 0, &table.repeat(2), rows), (28, 4));
+    assert_eq!(write_flags(&A, 0, &table.repeat(300), rows), (28, 4));
+    table[16..].rotate_left(8);
+    assert_eq!(write_flags(&A, 0, &table, rows), (16, 2));
     assert_eq!(*rows, [0xa5; 100]);
     let width = |width| [64, 4, 16, 0, 32, 32, width, 64];
     assert_eq!(read_unit(&[64, 4, 8, 3, 32, 32, 68, 64], 0, &[0], rows), (7, 0));
