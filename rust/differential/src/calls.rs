@@ -4,7 +4,7 @@ use colwythar::{max_flags_of_rows, MAX_FLAGS};
 use h266::{Params, Settings};
 use samples::{damage, settings, trees, Rng, Style};
 
-use crate::{pages, Engine};
+use crate::{pages, stops, Engine};
 
 /// As much as the rows or flags of any unit need.
 pub(crate) const ROOM: usize = 8_192;
@@ -29,6 +29,7 @@ pub fn round(engine: &mut Engine, rng: &mut Rng) {
     damaged_flags(engine, rng, &unit);
     damaged_rows(engine, rng, &unit);
     lawless_rows(engine, rng, &unit);
+    stops::around(engine, rng, &unit);
     other_limits(engine, rng, &unit);
     no_such_unit(engine, rng, &unit);
     broken_settings(engine, rng, &unit);

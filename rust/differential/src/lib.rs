@@ -7,12 +7,13 @@
 //! unit after the other, and that there are no more flags than is planned. The calls come from
 //! random legal trees, damaged flags and tables, every width and height at the edges, broken
 //! settings, lent buffers of every kind of length, whole sessions, small units in full, and the
-//! units with the most flags. Tables, damaged ones too, are also printed as pages, which `tuned`
-//! does not have.
+//! units with the most flags. Tables are also cut, go on after their end, and have rows changed,
+//! exchanged, left out and doubled. All tables are also printed as pages, which `tuned` does not
+//! have.
 //!
-//! `h266` shares nothing with the engine. `tuned` takes from `h266` the check of the settings and the
-//! rules of open splits, and so does the generator of trees; trees are also drawn from random flags,
-//! which know no rules.
+//! `h266` shares nothing with the engine. `tuned` takes from `h266` the check of the settings, the
+//! rules of open splits and where a refused table stops being a tree, and so does the generator of
+//! trees the rules; trees are also drawn from random flags, which know no rules.
 //!
 //! ```
 //! use differential::{calls, Engine};
@@ -32,6 +33,7 @@ mod lent;
 pub mod pages;
 pub mod sessions;
 pub mod small;
+mod stops;
 mod tally;
 
 pub use call::Outcome;

@@ -2,8 +2,8 @@
 
 use std::collections::BTreeSet;
 
-use h266::brute::{all_trees, Trees};
-use h266::{Params, Settings};
+use h266::brute::{all_trees, Beginnings, Trees};
+use h266::Settings;
 use samples::{damage, Rng};
 
 use crate::calls::ROOM;
@@ -31,10 +31,12 @@ pub fn unit(
     Some(trees.len())
 }
 
-/// Every table turns back into its flags; a damaged one only if it is another tree's.
+/// Every table turns back into its flags; a damaged one only if it is another tree's, and else
+/// stops where no tree's table goes on.
 fn way_back(engine: &mut Engine, rng: &mut Rng, settings: &Settings, address: u64, trees: &Trees) {
     // In order, so that each run damages the same tables.
     let tables: BTreeSet<_> = trees.iter().collect();
+    let beginnings = Beginnings::of(trees);
     for (rows, flags) in tables {
         let back = pages::beside(engine, rng, settings, address, rows, ROOM);
         assert_eq!((back.number, &back.written), (0, flags), "{settings:?}, {rows:?}");
@@ -44,37 +46,10 @@ fn way_back(engine: &mut Engine, rng: &mut Rng, settings: &Settings, address: u6
         match trees.get(&other) {
             Some(flags) => assert_eq!((back.number, &back.written), (0, flags), "{other:?}"),
             None if other.len() % 8 != 0 => assert_eq!(back.number, 15, "{other:?}"),
-            None => assert_eq!(back.number, 16, "{other:?}"),
-        }
-    }
-}
-
-/// Settings whose units are small: large smallest blocks, and narrow pictures.
-pub fn settings() -> Vec<Settings> {
-    let mut all = Vec::new();
-    for ctu in [32, 64, 128] {
-        for min_cb in [4, 8, 16, 32, 64] {
-            for min_qt in [4, 8, 16, 32, 64] {
-                all.extend(variants(ctu, min_cb, min_qt));
+            None => {
+                let expected = beginnings.refusal(&other);
+                assert_eq!((back.number, back.value), expected, "{settings:?}, {other:?}");
             }
         }
     }
-    all.retain(|settings| Params::new(settings).is_ok());
-    all
-}
-
-/// Depths, largest sides and picture sides for the first three settings.
-fn variants(ctu: u32, min_cb: u32, min_qt: u32) -> Vec<Settings> {
-    let mut all = Vec::new();
-    let most = ctu.min(64);
-    for max_mtt in [0, 1, 2, 3, 4] {
-        for (max_bt, max_tt) in [(ctu, most), (min_qt, most), (ctu, min_qt)] {
-            for (width, height) in
-                [(8, 8), (8, ctu), (ctu, 8), (16, 24), (ctu, ctu), (ctu + 8, ctu - 8)]
-            {
-                all.push([ctu, min_cb, min_qt, max_mtt, max_bt, max_tt, width, height]);
-            }
-        }
-    }
-    all
 }

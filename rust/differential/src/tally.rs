@@ -3,7 +3,7 @@
 use std::fmt;
 
 /// One above the greatest number of a refusal.
-const NUMBERS: usize = 24;
+const NUMBERS: usize = 29;
 
 /// The functions of the engine.
 #[derive(Clone, Copy, Debug, PartialEq, Eq)]
@@ -31,8 +31,8 @@ impl Entry {
     pub fn numbers(self) -> Vec<usize> {
         match self {
             Self::Read => (1..=14).collect(),
-            Self::Write => (1..=10).chain(15..=17).collect(),
-            Self::Page => (1..=10).chain([15, 16, 23]).collect(),
+            Self::Write => (1..=10).chain(15..=17).chain([27, 28]).collect(),
+            Self::Page => (1..=10).chain([15, 16, 23, 27, 28]).collect(),
             Self::Open | Self::Count => (1..=9).collect(),
             Self::Unit => (11..=14).chain(20..=22).collect(),
         }

@@ -1,6 +1,7 @@
 //! The engine against `h266` and `tuned`: at least 200,000 calls on each, with fixed seeds.
 
 mod pages;
+mod stops;
 
 use colwythar::max_flags_of_rows;
 use differential::{calls, sessions, small, Engine, Entry};
@@ -23,9 +24,11 @@ fn single_units() {
     }
     assert!(tally.of(Entry::Read, 0) >= 20_000, "{tally}");
     assert!(tally.of(Entry::Write, 0) >= 15_000, "{tally}");
-    assert!(tally.of(Entry::Write, 16) >= 15_000, "{tally}");
     assert!(tally.of(Entry::Page, 0) >= 20_000, "{tally}");
-    assert!(tally.of(Entry::Page, 16) >= 15_000, "{tally}");
+    for number in [16, 27, 28] {
+        assert!(tally.of(Entry::Write, number) >= 15_000, "{tally}");
+        assert!(tally.of(Entry::Page, number) >= 15_000, "{tally}");
+    }
 }
 
 /// Every width and height of the units at the right and bottom edge, for every CTU side.
@@ -41,8 +44,10 @@ fn edges() {
     }
     println!("{}", engine.tally);
     assert!(engine.tally.calls() >= 100_000, "{}", engine.tally);
-    for number in [0, 15, 16, 23] {
-        assert!(engine.tally.of(Entry::Page, number) >= 15_000, "{}", engine.tally);
+    for (number, least) in
+        [(0, 15_000), (15, 15_000), (16, 15_000), (23, 15_000), (27, 5_000), (28, 5_000)]
+    {
+        assert!(engine.tally.of(Entry::Page, number) >= least, "{}", engine.tally);
     }
 }
 
@@ -65,7 +70,7 @@ fn pictures() {
 fn small_units_in_full() {
     let (mut engine, mut rng) = (Engine::default(), Rng::new(103));
     let (mut units, mut trees) = (0, 0);
-    for settings in small::settings() {
+    for settings in samples::small::settings() {
         let last = Params::new(&settings).expect("valid settings").unit_count() - 1;
         let found = small::unit(&mut engine, &mut rng, &settings, last, 300);
         units += usize::from(found.is_some());

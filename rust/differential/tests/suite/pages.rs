@@ -17,7 +17,12 @@ fn every_change_of_a_byte() {
             let mut changed = rows.clone();
             changed[at] ^= change;
             let back = pages::beside(&mut engine, &mut rng, &settings, address, &changed, ROOM);
-            assert_eq!(back.number, if change == 0 { 0 } else { 16 }, "{settings:?} {changed:?}");
+            // The rows before the changed one are a tree's.
+            let stopped = back.number == 16 && back.value >= at as u64 / 8;
+            assert!(
+                if change == 0 { back.number == 0 } else { stopped },
+                "{settings:?} {changed:?}"
+            );
         }
     }
     let (printed, short) = (engine.tally.of(Entry::Page, 0), engine.tally.of(Entry::Page, 23));
@@ -25,36 +30,6 @@ fn every_change_of_a_byte() {
     assert_eq!(printed + short, 27 * 8);
     assert!(printed >= 50 && short >= 50, "{}", engine.tally);
     assert_eq!(engine.tally.of(Entry::Page, 16), 27 * 8 * 255);
-}
-
-/// The table with each row missing, each row twice, each two rows exchanged, and cut at each byte.
-fn damaged(rows: &[u8]) -> Vec<Vec<u8>> {
-    let table: Vec<&[u8]> = rows.chunks(8).collect();
-    let mut all: Vec<Vec<u8>> = (0..rows.len()).map(|end| rows[..end].to_vec()).collect();
-    for at in 0..table.len() {
-        all.push([&table[..at], &table[at + 1..]].concat().concat());
-        all.push([&table[..=at], &table[at..]].concat().concat());
-        for other in 0..at {
-            let mut exchanged = table.clone();
-            exchanged.swap(at, other);
-            all.push(exchanged.concat());
-        }
-    }
-    all
-}
-
-#[test]
-fn rows_missing_twice_and_exchanged() {
-    let (mut engine, mut rng) = (Engine::default(), Rng::new(107));
-    for Example { settings, address, rows, .. } in examples() {
-        for other in damaged(&rows) {
-            let number = if other.len() % 8 == 0 { 16 } else { 15 };
-            for room in [0, 33 * (other.len() / 8), 1_000] {
-                let page = engine.page(&mut rng, &settings, address, &other, room);
-                assert_eq!(page.number, number, "{settings:?} {address} {other:?}");
-            }
-        }
-    }
 }
 
 /// Units of the largest pictures that are one row, at addresses of one to six digits.
