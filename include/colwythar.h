@@ -60,7 +60,8 @@ extern "C" {
 #define COLWYTHAR_MAX_PAGE_BYTES 33792
 
 /* The numbers of an answer. Within a group the first that fails, in the order of the numbers, is answered; but 11 and 12
- * are met in the walk, whichever comes first, and the session's are tested in the order 22, 20, 21, before the flags. */
+ * are met in the walk, whichever comes first, 27 and 28 are tested before 16, and the session's are tested in the order
+ * 22, 20, 21, before the flags. */
 #define COLWYTHAR_ACCEPTED 0
 
 /* The settings. */
@@ -83,9 +84,12 @@ extern "C" {
 #define COLWYTHAR_FLAGS_LEFT        13 /* bytes follow the last flag; place: the first of them */
 #define COLWYTHAR_SHORT_ROW_BUFFER  14 /* row buffer too short; place: the rows needed */
 
-/* Turning rows back. */
+/* Turning rows back. Only one of 27, 28 and 16 can hold; an empty table is refused with 27, and more rows than any unit has
+ * with 28 or 16, like any others. For 16 the row at the place, counted from 0, is the first that fits no tree of the unit. */
 #define COLWYTHAR_CUT_ROW           15 /* row bytes no multiple of 8; place: the whole rows */
-#define COLWYTHAR_NO_TREE           16 /* no flags give these rows */
+#define COLWYTHAR_ROWS_END          27 /* a row is missing: the table ends too early; place: the number of rows */
+#define COLWYTHAR_ROWS_LEFT         28 /* rows follow a whole table; place: the first of them, its number of rows */
+#define COLWYTHAR_NO_TREE           16 /* no flags give these rows; place: how many, at most, some table begins with */
 #define COLWYTHAR_SHORT_FLAG_BUFFER 17 /* flag buffer too short; place: the flags needed */
 
 /* The session. */
@@ -93,21 +97,22 @@ extern "C" {
 #define COLWYTHAR_NOT_DUE           21 /* the address is not the due one; place: the due one */
 #define COLWYTHAR_NO_SESSION        22 /* the settings fail 1 to 9, or the due address exceeds the unit count */
 
-/* Printing a page, after 1 to 10, 15 and 16. */
+/* Printing a page, after 1 to 10, 15, 27, 28 and 16. */
 #define COLWYTHAR_SHORT_PAGE        23 /* page too short; place: the bytes needed */
 
 /* Reads the flags of the unit at an address into the row buffer. Answers the number of rows, or 1 to 14. */
 void colwythar_read_unit(const uint32_t settings[8], uint64_t address, const uint8_t *flags, size_t flags_len,
                          uint8_t *rows, size_t rows_len, uint64_t answer[2]);
 
-/* Turns the rows of the unit at an address back into the flags that give them. Answers the number of flags, or 1 to 10
- * and 15 to 17. */
+/* Turns the rows of the unit at an address back into the flags that give them. Answers the number of flags, or 1 to
+ * 10, 15, 27, 28, 16 and 17. */
 void colwythar_write_flags(const uint32_t settings[8], uint64_t address, const uint8_t *rows, size_t rows_len,
                            uint8_t *flags, size_t flags_len, uint64_t answer[2]);
 
 /* Prints the rows of the unit at an address into the page, where some flags give them: a line for each row, 33 bytes of
  * ASCII. Address, X and Y have 6 columns each, width and height in samples 4 each, QT depth and MTT depth 3 each, decimal
- * and right-aligned with spaces; then a line feed. Answers the number of bytes, or 1 to 10, 15, 16 and 23. */
+ * and right-aligned with spaces; then a line feed. Answers the number of bytes, or 1 to 10, 15, 27, 28, 16 and
+ * 23. */
 void colwythar_page(const uint32_t settings[8], uint64_t address, const uint8_t *rows, size_t rows_len, uint8_t *page,
                     size_t page_len, uint64_t answer[2]);
 

@@ -118,7 +118,8 @@ pub fn read_unit(
 ///
 /// # Errors
 ///
-/// Numbers 1 to 10 and 15 to 17.
+/// Numbers 1 to 10, 15, 27, 28, 16 and 17. Those for rows that no flags give are explained at
+/// [`Refusal`].
 pub fn write_flags(
     settings: &Settings,
     address: u64,

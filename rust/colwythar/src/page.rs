@@ -34,7 +34,7 @@ pub const MAX_PAGE_BYTES: usize = 1_024 * LINE_BYTES;
 ///
 /// # Errors
 ///
-/// Numbers 1 to 10, 15, 16 and 23.
+/// Numbers 1 to 10, 15, 27, 28, 16 and 23.
 pub fn page(
     settings: &Settings,
     address: u64,
@@ -62,7 +62,7 @@ pub fn page(
 ///
 /// # Errors
 ///
-/// Numbers 1 to 10, 15 and 16.
+/// Numbers 1 to 10, 15, 27, 28 and 16.
 pub fn page_text(settings: &Settings, address: u64, rows: &[u8]) -> Result<String, Refusal> {
     // A table with more rows than any unit has is refused before the length is looked at.
     let room = LINE_BYTES.saturating_mul(rows.len() / 8).min(MAX_PAGE_BYTES);

@@ -14,9 +14,38 @@ use std::fmt;
 /// let refusal = Refusal { number: 12, place: 2 };
 /// assert_eq!(refusal.to_string(), "refusal 12: flag 2, counted from 0, is neither 0 nor 1");
 /// ```
+///
+/// Rows that no flags give are refused with 27, 28 or 16, and the place says where to look:
+///
+/// | number | the rows | place |
+/// |---|---|---|
+/// | 27 | are the beginning of a longer table | their number |
+/// | 28 | begin with a whole table and go on | its number of rows, and so the first row too many |
+/// | 16 | are others | the first row, counted from 0, with which no table of the unit goes on |
+///
+/// Rows of 16 before the place are the beginning of some table, so what is wrong is the row at the
+/// place or one before it that by chance also fits another tree.
+///
+/// ```
+/// use colwythar::{write_flags, Settings};
+///
+/// let settings = Settings {
+///     ctu: 64, min_cb: 4, min_qt: 8, max_mtt: 3, max_bt: 32, max_tt: 32, width: 64, height: 64,
+/// };
+/// let quarter = |x, y| [x, 0, y, 0, 5, 5, 1, 0];
+/// let mut rows = [quarter(0, 0), quarter(32, 0), quarter(0, 32), quarter(32, 32)];
+/// assert_eq!(write_flags(&settings, 0, &rows.concat(), &mut [0; 5]), Ok(5));
+///
+/// let refusal = write_flags(&settings, 0, &rows[..3].concat(), &mut [0; 5]).unwrap_err();
+/// assert_eq!((refusal.number, refusal.place), (27, 3));
+///
+/// rows.swap(2, 3);
+/// let refusal = write_flags(&settings, 0, &rows.concat(), &mut [0; 5]).unwrap_err();
+/// assert_eq!((refusal.number, refusal.place), (16, 2));
+/// ```
 #[derive(Clone, Copy, Debug, PartialEq, Eq, Hash)]
 pub struct Refusal {
-    /// 1 to 17 or 20 to 23.
+    /// 1 to 17, 20 to 23, 27 or 28.
     pub number: u64,
     /// Where or how much, according to the number.
     pub place: u64,
@@ -46,7 +75,6 @@ impl Refusal {
             8 => "the height is 0, above 16384, or no multiple of the larger of 8 and MinCb",
             9 => "M is 0, and the width or the height is no multiple of MinQt",
             10 => "the picture has no such unit",
-            16 => "no flags give these rows",
             20 => "the picture is complete",
             22 => "this is no session that an opening or an accepted unit yielded",
             _ => "the engine gave an unknown number",
@@ -67,9 +95,18 @@ impl fmt::Display for Refusal {
             }
             14 => write!(f, "the row buffer is too short, {place} rows are needed"),
             15 => write!(f, "the table ends within a row, after {place} whole ones"),
+            16 => {
+                write!(f, "row {place}, counted from 0, is the first that fits no tree")?;
+                f.write_str(" of this unit")
+            }
             17 => write!(f, "the flag buffer is too short, {place} flags are needed"),
             21 => write!(f, "another unit is due, unit {place}"),
             23 => write!(f, "the page is too short, {place} bytes are needed"),
+            27 => write!(f, "more rows are needed, there are only {place}"),
+            28 => {
+                write!(f, "too many rows, the first that is too many is row {place}")?;
+                f.write_str(", counted from 0")
+            }
             _ => f.write_str(self.sentence()),
         }
     }

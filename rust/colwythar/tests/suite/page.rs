@@ -91,14 +91,17 @@ fn pages_that_are_too_short() {
 
 #[test]
 fn rows_that_no_tree_gives() {
-    never_printed(&A, 0, &[], 16, 0);
+    never_printed(&A, 0, &[], 27, 0);
+    never_printed(&A, 0, &table(&P2[..3]), 27, 3);
     never_printed(&A, 0, &table(&[P2[1], P2[0], P2[2], P2[3]]), 16, 0);
+    never_printed(&A, 0, &table(&[P2[0], P2[1], P2[3], P2[2]]), 16, 2);
     never_printed(&A, 0, &table(&P2[1..]), 16, 0);
-    never_printed(&A, 0, &table(&[&P2[..], &P2[3..]].concat()), 16, 0);
+    never_printed(&A, 0, &table(&[&P2[..], &P2[3..]].concat()), 28, 4);
     let mut damaged = table(&P2);
     damaged[12] = 4;
-    never_printed(&A, 0, &damaged, 16, 0);
-    never_printed(&A, 0, &table(&[P2[0]; 1_025]), 16, 0);
+    never_printed(&A, 0, &damaged, 16, 1);
+    never_printed(&A, 0, &table(&[P2[0]; 1_025]), 16, 1);
+    never_printed(&A, 0, &table(&P2.repeat(257)), 28, 4);
 }
 
 #[test]

@@ -95,7 +95,7 @@ fn p7() {
 fn p8_to_p10() {
     refused(&A, &[], 100, 11, 0);
     refused(&A, &[0, 0], 100, 13, 1);
-    refused_back(&[], 100, 16, 0);
+    refused_back(&[], 100, 27, 0);
 }
 
 #[test]
@@ -104,7 +104,12 @@ fn examples_of_the_test_program() {
     refused(&A, &[1, 0, 0, 0], 100, 11, 4);
     refused(&A, &P2_FLAGS, 31, 14, 4);
     assert_eq!(read_unit(&A, 0, &P2_FLAGS, &mut [0; 32]), Ok(4));
-    refused_back(&table(&[P2[1], P2[0], P2[2], P2[3]]), 100, 16, 0);
+    // The quarters have a fixed order, so the first of two exchanged rows fits no tree.
+    for (first, second) in [(0, 1), (0, 2), (0, 3), (1, 2), (1, 3), (2, 3)] {
+        let mut exchanged = P2;
+        exchanged.swap(first, second);
+        refused_back(&table(&exchanged), 100, 16, first as u64);
+    }
     refused(&Settings { width: 68, ..A }, &[0], 100, 7, 0);
     let open = |width| Session::open(Settings { min_qt: 16, max_mtt: 0, width, ..A });
     assert_eq!(open(72), Err(Refusal { number: 9, place: 0 }));
@@ -116,7 +121,43 @@ fn way_back_refusals() {
     let table = table(&P2);
     assert_eq!(write_flags(&A, 1, &table, &mut [0; 5]), Err(Refusal { number: 10, place: 0 }));
     refused_back(&table[..31], 5, 15, 3);
-    refused_back(&table[..24], 5, 16, 0);
     refused_back(&table, 4, 17, 5);
     refused_back(&table, 0, 17, 5);
+    // The first in the order of the checks.
+    refused_back(&table[..24], 0, 27, 3);
+    refused_back(&[&table[..], &table[..1]].concat(), 0, 15, 4);
+}
+
+/// P4: a row that another tree would have there, and what follows that tree has not.
+#[test]
+fn tables_that_stop_being_a_tree() {
+    let p4 = [
+        (0, 0, 3, 5, 1, 1),
+        (8, 0, 2, 5, 1, 2),
+        (12, 0, 3, 5, 1, 2),
+        (20, 0, 2, 5, 1, 2),
+        (24, 0, 3, 5, 1, 1),
+        P2[1],
+        P2[2],
+        P2[3],
+    ];
+    for rows in 0..8 {
+        refused_back(&table(&p4[..rows]), 100, 27, rows as u64);
+    }
+    for more in [P2[3], P2[0], (0, 0, 0, 0, 0, 0)] {
+        refused_back(&table(&[&p4[..], &[more]].concat()), 100, 28, 8);
+    }
+    refused_back(&table(&p4.repeat(200)), 100, 28, 8);
+    let changed = |row: usize, fields| {
+        let mut changed = p4;
+        changed[row] = fields;
+        table(&changed)
+    };
+    // The middle part may not be halved in the same direction.
+    refused_back(&changed(1, (8, 0, 3, 5, 1, 2)), 100, 16, 1);
+    // It may be a leaf, as in P3, and then the row at (24, 0) follows.
+    refused_back(&changed(1, (8, 0, 4, 5, 1, 1)), 100, 16, 2);
+    // The first quarter as a whole, and then the second follows.
+    refused_back(&changed(0, P2[0]), 100, 16, 1);
+    refused_back(&changed(7, (32, 32, 5, 5, 0, 0)), 100, 16, 7);
 }

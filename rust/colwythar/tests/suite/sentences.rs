@@ -7,7 +7,7 @@ use colwythar::Refusal;
 
 #[test]
 fn all_numbers_differ() {
-    let numbers: Vec<u64> = (1..=17).chain(20..=23).collect();
+    let numbers: Vec<u64> = (1..=17).chain(20..=23).chain([27, 28]).collect();
     let sentence = |&number: &u64| {
         let refusal: Box<dyn Error> = Box::new(Refusal { number, place: 5 });
         let text = refusal.to_string();
@@ -22,7 +22,7 @@ fn all_numbers_differ() {
 
 #[test]
 fn places_are_named() {
-    for number in [11, 12, 13, 14, 15, 17, 21, 23] {
+    for number in [11, 12, 13, 14, 15, 16, 17, 21, 23, 27, 28] {
         let text = Refusal { number, place: 4711 }.to_string();
         assert!(text.contains("4711"), "{text}");
     }
@@ -36,8 +36,11 @@ fn sentences_that_say_a_limit_or_a_place() {
         (11, 4, "refusal 11: more flags are needed, there are only 4"),
         (12, 2, "refusal 12: flag 2, counted from 0, is neither 0 nor 1"),
         (13, 5, "refusal 13: too many flags, the first that is too many is flag 5, counted from 0"),
+        (16, 2, "refusal 16: row 2, counted from 0, is the first that fits no tree of this unit"),
         (21, 0, "refusal 21: another unit is due, unit 0"),
         (23, 132, "refusal 23: the page is too short, 132 bytes are needed"),
+        (27, 3, "refusal 27: more rows are needed, there are only 3"),
+        (28, 4, "refusal 28: too many rows, the first that is too many is row 4, counted from 0"),
     ];
     for (number, place, sentence) in sentences {
         assert_eq!(Refusal { number, place }.to_string(), sentence);
