@@ -12,9 +12,13 @@ use crate::text::Reason;
 /// use cli::Complaint;
 /// use colwythar::Refusal;
 ///
-/// let refusal = Refusal { number: 16, place: 0 };
-/// let complaint = Complaint::Unit { lines: (2, 5), address: 0, units: 1, refusal };
-/// assert_eq!(complaint.to_string(), "lines 2 to 5: unit 0: refusal 16: no flags give these rows");
+/// let refusal = Refusal { number: 27, place: 3 };
+/// let complaint =
+///     Complaint::Unit { lines: (2, 5), row_line: None, address: 0, units: 1, refusal };
+/// assert_eq!(
+///     complaint.to_string(),
+///     "lines 2 to 5: unit 0: refusal 27: more rows are needed, there are only 3 (the last is line 5)",
+/// );
 /// ```
 #[derive(Clone, Copy, Debug, PartialEq, Eq)]
 pub enum Complaint {
@@ -40,6 +44,8 @@ pub enum Complaint {
     Unit {
         /// The first and the last of its lines.
         lines: (u64, u64),
+        /// The line of the row that the refusal's place names.
+        row_line: Option<u64>,
         /// Its address.
         address: u64,
         /// How many units the picture has.
@@ -71,15 +77,17 @@ impl fmt::Display for Complaint {
             Self::Nothing => f.write_str("nothing to read: a picture line is expected"),
             Self::Malformed { line, place, reason } => write!(f, "line {line}: {place}{reason}"),
             Self::Picture { line, refusal } => write!(f, "line {line}: {refusal}"),
-            Self::Unit { lines, address, units, refusal } => {
+            Self::Unit { lines, row_line, address, units, refusal } => {
                 match lines {
                     (first, last) if first == last => write!(f, "line {first}")?,
                     (first, last) => write!(f, "lines {first} to {last}")?,
                 }
                 write!(f, ": unit {address}: {refusal}")?;
-                match (refusal.number, units) {
-                    (10, 1) => f.write_str(" (it has 1 unit)"),
-                    (10, units) => write!(f, " (it has {units} units)"),
+                match (refusal.number, units, row_line) {
+                    (10, 1, _) => f.write_str(" (it has 1 unit)"),
+                    (10, units, _) => write!(f, " (it has {units} units)"),
+                    (27, ..) => write!(f, " (the last is line {})", lines.1),
+                    (_, _, Some(line)) => write!(f, " (it is line {line})"),
                     _ => Ok(()),
                 }
             }

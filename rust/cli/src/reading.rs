@@ -124,7 +124,7 @@ impl<'a, 'b> Reader<'a, 'b> {
                 self.rows += count as u64;
                 self.command.unit(&Unit { address, flags: &self.flags, rows }, self.context)
             }
-            Err(refusal) => self.refused((line, line), address, refusal),
+            Err(refusal) => self.refused((line, line), None, address, refusal),
         }
     }
 
@@ -156,15 +156,27 @@ impl<'a, 'b> Reader<'a, 'b> {
                 self.rows += self.table.len() as u64;
                 self.command.unit(&Unit { address, flags, rows }, self.context)?;
             }
-            Err(refusal) => self.refused(self.table.lines(), address, refusal)?,
+            Err(refusal) => {
+                let row_line = match refusal.number {
+                    16 | 28 => self.table.line_of(refusal.place),
+                    _ => None,
+                };
+                self.refused(self.table.lines(), row_line, address, refusal)?;
+            }
         }
         self.table.clear();
         Ok(())
     }
 
-    fn refused(&mut self, lines: (u64, u64), address: u64, refusal: Refusal) -> io::Result<()> {
+    fn refused(
+        &mut self,
+        lines: (u64, u64),
+        row_line: Option<u64>,
+        address: u64,
+        refusal: Refusal,
+    ) -> io::Result<()> {
         let units = self.session.as_ref().map_or(0, Session::unit_count);
-        self.complain(Complaint::Unit { lines, address, units, refusal })
+        self.complain(Complaint::Unit { lines, row_line, address, units, refusal })
     }
 
     /// A line that is not taken ends the table before it, unless it begins as a row of it: then the

@@ -2,26 +2,27 @@
 
 use colwythar::Row;
 
-/// How many rows a table has at most. The engine takes 1,024; a table with more is given to it as
-/// it is, so that the refusal is the engine's.
+/// How many rows a table has at most. No unit has more than 1,024; a table with more is given to the
+/// engine as it is, so that the refusal is the engine's.
 const MOST_ROWS: usize = 2048;
 
 /// A run of rows of one unit, which the next other line ends.
 #[derive(Default)]
 pub struct Table {
     address: u64,
-    lines: (u64, u64),
+    /// The line of each row; between them there may be comments.
+    lines: Vec<u64>,
     bytes: Vec<u8>,
 }
 
 impl Table {
     pub fn is_empty(&self) -> bool {
-        self.bytes.is_empty()
+        self.lines.is_empty()
     }
 
     /// How many rows there are.
     pub fn len(&self) -> usize {
-        self.bytes.len() / 8
+        self.lines.len()
     }
 
     /// Is a row of this unit the next row of the table?
@@ -34,11 +35,8 @@ impl Table {
         if self.len() == MOST_ROWS {
             return false;
         }
-        if self.is_empty() {
-            self.lines.0 = line;
-        }
-        self.lines.1 = line;
         self.address = address;
+        self.lines.push(line);
         self.bytes.extend(row.to_bytes());
         true
     }
@@ -47,9 +45,14 @@ impl Table {
         self.address
     }
 
-    /// The first and the last line.
+    /// The first and the last line of a table that has rows.
     pub fn lines(&self) -> (u64, u64) {
-        self.lines
+        (self.lines[0], self.lines[self.len() - 1])
+    }
+
+    /// The line of a row, counted from 0.
+    pub fn line_of(&self, row: u64) -> Option<u64> {
+        self.lines.get(usize::try_from(row).ok()?).copied()
     }
 
     /// The rows, 8 bytes each.
@@ -58,6 +61,7 @@ impl Table {
     }
 
     pub fn clear(&mut self) {
+        self.lines.clear();
         self.bytes.clear();
     }
 }

@@ -68,6 +68,19 @@ colwythar: standard input: line 4: unit 1: refusal 13: \
 }
 
 #[test]
+fn broken_tables_are_left_out_and_said() {
+    let text = "picture 64 4 8 3 32 32 128 64\n0 0 0 32 32 1 0\n\n0 32 0 32 32 1 0\n\
+                1 64 0 64 64 0 0\n# again\n1 64 0 64 64 0 0\n0 0 0 64 64 0 0\n";
+    let ran = run_with(&["draw", "-"], text.as_bytes());
+    let said = "colwythar: standard input: lines 2 to 4: unit 0: refusal 27: \
+                more rows are needed, there are only 2 (the last is line 4)
+colwythar: standard input: lines 5 to 7: unit 1: refusal 28: \
+                too many rows, the first that is too many is row 1, counted from 0 (it is line 7)\n";
+    assert_eq!((ran.status, ran.err.as_str()), (1, said));
+    assert_eq!(ran.out.matches("class=\"block\"").count(), 1);
+}
+
+#[test]
 fn several_pictures_stand_one_below_another() {
     let (p2, edge) = (sample("p2.txt"), sample("edge-128.txt"));
     let ran = run(&["draw".as_ref(), p2.as_os_str(), edge.as_os_str()]);

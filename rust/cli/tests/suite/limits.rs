@@ -29,9 +29,10 @@ fn many_flags() {
 
 #[test]
 fn many_rows() {
-    let rows = |count| "0 0 0 4 4 4 0\n".repeat(count);
+    let rows = |count| "0 0 0 64 64 0 0\n".repeat(count);
     let ran = run_with(&["flags", "-"], [PICTURE, &rows(2048)].concat().as_bytes());
-    let refused = "# lines 2 to 2049: unit 0: refusal 16: no flags give these rows\n";
+    let refused = "# lines 2 to 2049: unit 0: refusal 28: too many rows, the first that is too \
+                   many is row 1, counted from 0 (it is line 3)\n";
     assert_eq!(ran.out, format!("{PICTURE}{refused}"));
     let most = "# line 2050: row 2048 of unit 0, counted from 0: a table has at most 2048 rows";
     assert_eq!(last_line(&rows(2049)), most);

@@ -73,7 +73,8 @@ fn a_damaged_table_is_said_and_left_out() {
     let damaged = "0 0 0 32 32 1 0\n0 0 32 32 32 1 0\n0 32 0 32 32 1 0\n0 32 32 32 32 1 0\n";
     let ran = page_of(&format!("{TWO}{damaged}1 64 0 64 64 0 0\n2 128 0 64 64 0 0\n"));
     let err = said(&[
-        "lines 2 to 5: unit 0: refusal 16: no flags give these rows",
+        "lines 2 to 5: unit 0: refusal 16: row 1, counted from 0, is the first that fits no tree \
+         of this unit (it is line 3)",
         "line 7: unit 2: refusal 10: the picture has no such unit (it has 2 units)",
     ]);
     let out = "     1    64     0  64  64  0  0\n".to_string();
