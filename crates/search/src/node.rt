@@ -36,10 +36,12 @@ pub(crate) fn child_search(u: &Table, rows: &[u8], c: u64, row: u64, depths: u32
     let bottom = nodes::bottom_out_at(u, row);
     if right | bottom {
         let splits = nodes::out_splits(u, row, depths, right, bottom);
-        return node_search(u, rows, c, row, depths, true, splits);
+        let after = rows;
+        return node_search(u, after, c, row, depths, true, splits);
     }
     let splits = nodes::inner_splits(u, row, depths);
-    node_search(u, rows, c, row, depths, false, splits)
+    let ahead = rows;
+    node_search(u, ahead, c, row, depths, false, splits)
 }
 
 // A node whose open splits are known. The next row starts at its corner; its depths say which decisions there may be.
@@ -59,15 +61,18 @@ pub(crate) fn node_search(
     if rows.len() <= at {
         return nodes::refusal(16, at / 8);
     }
-    let next = word_at(rows, at);
+    let ahead = rows;
+    let next = word_at(ahead, at);
     if next % ROW_WIDTH != row % ROW_WIDTH {
         return nodes::refusal(16, at / 8);
     }
     if nodes::qt_depth(row) < nodes::qt_depth(next) {
-        return split_search(u, rows, c, row, depths, out, splits, Decision::Quad);
+        let after = rows;
+        return split_search(u, after, c, row, depths, out, splits, Decision::Quad);
     }
     if nodes::mtt_depth(next) != nodes::mtt_depth(row) {
-        return cut_search(u, rows, c, row, depths, out, splits);
+        let after = rows;
+        return cut_search(u, after, c, row, depths, out, splits);
     }
     if (next == row) & !out {
         nodes::further(c, 8)
@@ -90,22 +95,26 @@ pub(crate) fn cut_search(
     ensures { λ r. ⌜ Tried (now (rows .entry)) out splits (now (u .entry)) c (word row depths) cuts r ⌝ }
 {
     let binary = Decision::Binary(Direction::Horizontal);
-    let first = split_search(u, rows, c, row, depths, out, splits, binary);
+    let rows0 = rows;
+    let first = split_search(u, rows0, c, row, depths, out, splits, binary);
     let Child::Refused(_) = child_answer(first) else {
         return first;
     };
     let upright = Decision::Binary(Direction::Vertical);
-    let second = split_search(u, rows, c, row, depths, out, splits, upright);
+    let rows1 = rows;
+    let second = split_search(u, rows1, c, row, depths, out, splits, upright);
     let Child::Refused(_) = child_answer(second) else {
         return second;
     };
     let ternary = Decision::Ternary(Direction::Horizontal);
-    let third = split_search(u, rows, c, row, depths, out, splits, ternary);
+    let rows2 = rows;
+    let third = split_search(u, rows2, c, row, depths, out, splits, ternary);
     let Child::Refused(_) = child_answer(third) else {
         return third;
     };
     let last = Decision::Ternary(Direction::Vertical);
-    let fourth = split_search(u, rows, c, row, depths, out, splits, last);
+    let rows3 = rows;
+    let fourth = split_search(u, rows3, c, row, depths, out, splits, last);
     let Child::Refused(_) = child_answer(fourth) else {
         return fourth;
     };
@@ -129,7 +138,8 @@ pub(crate) fn split_search(
     if !allowed(out, splits, d) {
         return nodes::refusal(16, nodes::place(c) / 8);
     }
-    parts_search(u, rows, c, row, depths, out, d, 0)
+    let after = rows;
+    parts_search(u, after, c, row, depths, out, d, 0)
 }
 
 // The parts of a split from the one with a number on.
@@ -150,9 +160,12 @@ pub(crate) fn parts_search(
         return c;
     }
     let part = nodes::child_row(row, d, i);
-    let first = child_search(u, rows, c, part, left_to(u, row, depths, out, d, i));
+    let left = left_to(u, row, depths, out, d, i);
+    let ahead = rows;
+    let first = child_search(u, ahead, c, part, left);
     let Child::Walked(c1) = child_answer(first) else {
         return first;
     };
-    parts_search(u, rows, c1, row, depths, out, d, i + 1)
+    let after = rows;
+    parts_search(u, after, c1, row, depths, out, d, i + 1)
 }
