@@ -1,6 +1,6 @@
 -- The way back of one node, by what the rows ahead decide: what the code of a walk asks of its callees, and what it gives, for nodes inside the picture and
 -- for nodes that are out.
-use Prim.Native.Nat.{ℕ, _+_, _*_, _/_, _≤_}
+use Prim.Native.Nat.{ℕ, _+_, _/_, _≤_}
 use mathlib.Core.Path.{_≡_, refl, sym, ap, ap₂, subst, _∙_}
 use mathlib.Core.Bool.{true, false}
 use mathlib.Core.List.{List, [], _∷_}

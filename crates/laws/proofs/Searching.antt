@@ -15,7 +15,7 @@ use Rattle.tree.specs.Rows.{Row}
 use Rattle.tree.specs.Reading.{levelsLeft}
 use Rattle.tree.specs.Search.{Fit, whole, stuck, fitNode}
 use Rattle.tree.specs.Tree.{Tree, rowsOf}
-use Rattle.laws.specs.Begins.{Begins, GoesOn, LeavesAt}
+use Rattle.laws.specs.Begins.{GoesOn, LeavesAt}
 use Rattle.laws.specs.Good.{Good}
 use Rattle.laws.specs.Proper.{Proper}
 use Rattle.laws.proofs.Tests.{never}

@@ -1,7 +1,7 @@
 -- The way back of a node is its coding tree, read from the rows: it accepts exactly the rows of its trees, with the flags of these trees; and rows
 -- belong to one tree at most. What it does not accept: `SearchIsTree` (Searching.antt).
 use Prim.Native.Nat.{_+_, _≤_}
-use mathlib.Core.Path.{_≡_, refl, sym, ap, _∙_}
+use mathlib.Core.Path.{_≡_, sym, ap, _∙_}
 use mathlib.Core.Bool.{true}
 use mathlib.Core.List.{List, [], _∷_, _++_, append-nil}
 use Rattle.tree.specs.declared.Node.{Node}

@@ -133,21 +133,9 @@ module _ {bytes : List ℕ} {i : ℕ} (b : Eight bytes i) where
           let higher : wordAt bytes i / 1099511627776 ≡ getD bytes (i + 5) 0 + 256 * (getD bytes (i + 6) 0 + 256 * getD bytes (i + 7) 0) = omega arith in
           rw (high, higher) (omega arith)
 
-  pub word-qt : wordAt bytes i / 281474976710656 % 256 ≡ rowAt bytes i .qt
+  word-depths : (wordAt bytes i / 281474976710656 % 256 ≡ rowAt bytes i .qt) × (wordAt bytes i / 72057594037927936 % 256 ≡ rowAt bytes i .mtt)
   unfolding wordAt wordOf rowAt
-  word-qt =
-      let b₀ = b .at-0 in
-      let b₁ = b .at-1 in
-      let b₂ = b .at-2 in
-      let b₃ = b .at-3 in
-      let b₄ = b .at-4 in
-      let b₅ = b .at-5 in
-      let b₆ = b .at-6 in
-      omega arith
-
-  pub word-mtt : wordAt bytes i / 72057594037927936 % 256 ≡ rowAt bytes i .mtt
-  unfolding wordAt wordOf rowAt
-  word-mtt =
+  word-depths =
       let b₀ = b .at-0 in
       let b₁ = b .at-1 in
       let b₂ = b .at-2 in
@@ -156,7 +144,13 @@ module _ {bytes : List ℕ} {i : ℕ} (b : Eight bytes i) where
       let b₅ = b .at-5 in
       let b₆ = b .at-6 in
       let b₇ = b .at-7 in
-      omega arith
+      (omega arith, omega arith)
+
+  pub word-qt : wordAt bytes i / 281474976710656 % 256 ≡ rowAt bytes i .qt
+  word-qt = word-depths .0
+
+  pub word-mtt : wordAt bytes i / 72057594037927936 % 256 ≡ rowAt bytes i .mtt
+  word-mtt = word-depths .1
 
   module _ {n : Node} (f : Fits n) where
     pub same-word : wordAt bytes i ≡ rowWord (rowOf n) → sameRow (rowAt bytes i) (rowOf n) ≡ true

@@ -1,44 +1,27 @@
 -- A node of the search, by what is known of it: from a child to a node whose open splits are known, and from the decisions that are tried to the node.
-use Prim.Native.Nat.{ℕ, suc, _+_, _-_, _*_, _/_, _%_, _≤_, _<_, max}
-use mathlib.Core.Path.{_≡_, refl, sym, ap, ap₂, subst, _∙_}
-use mathlib.Core.Bool.{Bool, true, false, not, cond, _&&_}
+use Prim.Native.Nat.{ℕ, _-_, _≤_, _<_, max}
+use mathlib.Core.Path.{_≡_, sym, ap, subst, _∙_}
+use mathlib.Core.Bool.{Bool, true, false, not}
 use mathlib.Core.List.{List, [], _∷_}
 use native.Mathlib.Omega.{arith}
-use lib.Dec.{ltb, eqb}
-use lib.ListN.{length}
 use Rattle.tree.specs.declared.Node.{Node}
-use Rattle.tree.specs.declared.Direction.the-variants.{Horizontal, Vertical}
 use Rattle.tree.specs.declared.Decision.{Decision}
-use Rattle.tree.specs.declared.Decision.the-variants.{Leaf, Quad, Binary, Ternary}
 use Rattle.tree.specs.Kind.{Kind}
-use Rattle.tree.specs.Splits.{isSplit, isOut, rightOut, bottomOut, rightsOf, rightsIn, allows}
-use Rattle.tree.specs.Children.{shares, children, cornerInside}
-use Rattle.tree.specs.Rows.{Row, rowOf, rowAt}
-use Rattle.tree.specs.Back.{sameRow}
-use Rattle.tree.specs.Search.{Fit, whole, stuck, better, fitAny, cuts, fitNode, shown}
-use Rattle.laws.specs.Areas.{areasOf, flagRoom}
-use Rattle.laws.specs.FitRun.{fitRun}
-use Rattle.laws.proofs.Areas.{kids-areas}
-use Rattle.laws.proofs.FitRuns.{over-fit}
-use Rattle.laws.proofs.FlagAreas.{decision-room}
-use Rattle.laws.proofs.Runs.{over-one}
-use Rattle.laws.proofs.Shown.{Starts, any-join, any-leaf, any-split, any-shut, node-none, node-pruned, fit-shown}
-use Rattle.nodes.specs.State.{refusal, placeOf, givenOf}
-use Rattle.nodes.specs.Tables.{tableOf, limitsIn}
+use Rattle.tree.specs.Splits.{isOut, rightOut, bottomOut, rightsOf, rightsIn}
+use Rattle.tree.specs.Children.{cornerInside}
+use Rattle.tree.specs.Rows.{Row}
+use Rattle.tree.specs.Search.{fitAny, fitNode}
+use Rattle.laws.proofs.Shown.{any-join}
+use Rattle.nodes.specs.State.{givenOf}
+use Rattle.nodes.specs.Tables.{limitsIn}
 use Rattle.nodes.specs.RowNodes.{nodeIn, innerIn, outIn}
 use Rattle.walks.specs.Stands.{Word, word, Outer, no-more, one-more}
-use Rattle.walks.specs.Walks.{Ready, Done, Asked, Walked, walkOver}
+use Rattle.walks.specs.Walks.{Ready, Asked, Walked}
 use Rattle.walks.proofs.AtEdge.{corner-is, right-is, bottom-is, out-is}
 use Rattle.walks.proofs.Open.{handed-over, inside-rights, out-rights}
 use Rattle.walks.proofs.One.{Case, some-case, each-case}
-use Rattle.walks.proofs.RowFields.{fits, row-says}
-use Rattle.marks.specs.Table.{rowsLeft, wordAt, Eight, Left}
-use Rattle.marks.proofs.NextRows.{no-row, next-row, after-row}
-use Rattle.marks.proofs.RowWords.{word-corner, word-qt, word-mtt, same-word, other-word}
-use Rattle.search.specs.Walking.{searchWay, Known, wordsFrom, Falls, Tried}
-use Rattle.search.proofs.Answers.{Answers, stuck-here, goes-here, first-on, second-on, farther-on}
-use Rattle.search.proofs.PartWords.{known-kids, known-falls}
-use Rattle.search.proofs.Way.{left-long}
+use Rattle.search.specs.Walking.{searchWay, Known, Tried}
+use Rattle.search.proofs.Answers.{first-on, second-on, farther-on}
 
 -- ---- from a child to a node whose open splits are known
 
@@ -57,36 +40,29 @@ module _ {bytes u : List ℕ} {c row depths : ℕ} where
     pub known-walked : {r : ℕ} → Walked (searchWay bytes) (Known out splits) u c (word row depths ∷ []) [] r [] → Walked (searchWay bytes) Outer u c (word row depths ∷ []) [] r []
     known-walked w = each-case (searchWay bytes) Outer u c (word row depths) (λ k n rows at. w .done k (n ∷ []) rows (known-ready at))
 
-  module _ (begins : cornerInside (limitsIn u) (nodeIn row) ≡ true) {splits : ℕ} where
-    pub out-known : isOut (limitsIn u) (nodeIn row) ≡ true → splits ≡ outIn u row depths (rightOut (limitsIn u) (nodeIn row)) (bottomOut (limitsIn u) (nodeIn row))
+  module _ (begins : cornerInside (limitsIn u) (nodeIn row) ≡ true) where
+    module _ {out : Bool} (edge : isOut (limitsIn u) (nodeIn row) ≡ out) {k : Kind} {n : Node} {rows : List Row} (at : Child bytes u c row depths k n rows) where
+      begins-here : cornerInside (k .limits) n ≡ true
+      begins-here = sym (corner-is (at .table) (at .stands-for)) ∙ begins
+
+      edge-here : isOut (k .limits) n ≡ out
+      edge-here = sym (out-is (at .table) (at .stands-for)) ∙ edge
+
+      is-known : {splits : ℕ} → rightsOf k n ≡ rightsIn out splits → Known out splits k n (word row depths)
+      is-known rights =
+          let o = at .stands-for in
+          record { placed = o .placed; here = begins-here; row = o .row; depths = o .depths; edge = edge-here; rights = rights }
+
+    pub out-known : {splits : ℕ} → isOut (limitsIn u) (nodeIn row) ≡ true → splits ≡ outIn u row depths (rightOut (limitsIn u) (nodeIn row)) (bottomOut (limitsIn u) (nodeIn row))
         → (k : Kind) (n : Node) (rows : List Row) → Child bytes u c row depths k n rows → Known true splits k n (word row depths)
     out-known out e k n rows at =
         let o = at .stands-for in
-        let here = sym (corner-is (at .table) o) ∙ begins in
-        let edge = sym (out-is (at .table) o) ∙ out in
-        record {
-          placed = o .placed;
-          here = here;
-          row = o .row;
-          depths = o .depths;
-          edge = edge;
-          rights = rw (e, right-is (at .table) o, bottom-is (at .table) o, at .table) (out-rights (at .proper) o here (ap not edge));
-        }
+        is-known out at (rw (e, right-is (at .table) o, bottom-is (at .table) o, at .table) (out-rights (at .proper) o (begins-here out at) (ap not (edge-here out at))))
 
-    pub in-known : isOut (limitsIn u) (nodeIn row) ≡ false → splits ≡ innerIn u row depths
+    pub in-known : {splits : ℕ} → isOut (limitsIn u) (nodeIn row) ≡ false → splits ≡ innerIn u row depths
         → (k : Kind) (n : Node) (rows : List Row) → Child bytes u c row depths k n rows → Known false splits k n (word row depths)
     in-known within e k n rows at =
-        let o = at .stands-for in
-        let here = sym (corner-is (at .table) o) ∙ begins in
-        let edge = sym (out-is (at .table) o) ∙ within in
-        record {
-          placed = o .placed;
-          here = here;
-          row = o .row;
-          depths = o .depths;
-          edge = edge;
-          rights = rw (e, at .table) (inside-rights (handed-over (at .proper) o here (ap not edge)));
-        }
+        is-known within at (rw (e, at .table) (inside-rights (handed-over (at .proper) (at .stands-for) (begins-here within at) (ap not (edge-here within at)))))
 
 -- ---- the decisions that are tried
 

@@ -1,11 +1,10 @@
 -- The parts of a node whose open splits are known: the numbers that the search has for them, and that each is smaller than the node.
 use Prim.Native.Nat.{ℕ, zero, suc, _+_, _-_, _*_, _≤_, _<_}
-use mathlib.Core.Path.{_≡_, refl, sym, ap, subst, _∙_}
-use mathlib.Core.Bool.{Bool, true, false, not, _||_}
+use mathlib.Core.Path.{_≡_, refl, sym, ap, _∙_}
+use mathlib.Core.Bool.{Bool, true, false, not}
 use mathlib.Core.List.{List, [], _∷_}
 use native.Mathlib.Omega.{arith}
 use native.Mathlib.Decide.{ℕ-discrete}
-use borrow.Author.Tests.{not-true}
 use lib.ListN.{length}
 use Rattle.sides.proofs.Bools.{or-none-left, or-none-right}
 use Rattle.tree.specs.declared.Node.{Node}
@@ -24,8 +23,8 @@ use Rattle.laws.proofs.Parts.{Piece, pieces}
 use Rattle.laws.proofs.Picture.{cut-out}
 use Rattle.laws.proofs.Tests.{never}
 use Rattle.nodes.specs.Tables.{tableOf}
-use Rattle.nodes.specs.RowNodes.{childRow, depthBelow, depthBeside}
-use Rattle.walks.specs.Stands.{Word, word, areaIn, keeps, Placed, Outer, AllStand, no-more, one-more}
+use Rattle.nodes.specs.RowNodes.{childRow}
+use Rattle.walks.specs.Stands.{word, areaIn, keeps, Outer, AllStand, no-more, one-more}
 use Rattle.walks.proofs.Below.{above-depths, below-depths, beside-binary, beside-ternary}
 use Rattle.walks.proofs.Children.{kid-outer}
 use Rattle.walks.proofs.Measure.{areasIn, some-area, each-area, same-areas}

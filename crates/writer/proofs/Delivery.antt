@@ -1,23 +1,20 @@
 -- What a walk of a whole tree answers, and the place that is found where it is refused, are the end of the test.
-use Prim.Native.Nat.{ℕ, zero, suc, _+_, _-_, _*_, _/_, _%_, _≤_, _<_}
-use mathlib.Core.Path.{_≡_, refl, sym, ap, ap₂, subst, _∙_}
+use Prim.Native.Nat.{ℕ, zero, suc, _-_, _*_, _/_, _%_, _≤_, _<_}
+use mathlib.Core.Path.{_≡_, refl, ap, _∙_}
 use mathlib.Core.List.{List, [], _∷_}
 use native.Mathlib.Omega.{arith}
 use lib.ListN.{length}
 use borrow.Author.Tests.{lt-ltb, le-ltb, eq-eqb, ne-eqb}
-use Rattle.tree.specs.declared.Node.{Node}
-use Rattle.tree.specs.Kind.{Kind}
-use Rattle.tree.specs.Rows.{Row, rowsIn}
+use Rattle.tree.specs.Rows.{Row}
 use Rattle.tree.specs.Run.{End, goes, stops}
-use Rattle.tree.specs.Back.{backNode}
-use Rattle.tree.specs.Search.{Fit, whole, stuck, fitNode}
+use Rattle.tree.specs.Search.{Fit, whole, stuck}
 use Rattle.laws.proofs.Tables.{rows-long}
 use Rattle.unit.specs.declared.Answer.the-variants.{Refused}
 use Rattle.unit.specs.Answers.{endAnswer}
 use Rattle.unit.specs.Writer.{fitEnd}
 use Rattle.unit.proofs.TreeTurning.{backEnd}
-use Rattle.nodes.specs.State.{placeOf, givenOf, refusal}
-use Rattle.walks.specs.Walks.{Says, Done}
+use Rattle.nodes.specs.State.{placeOf, givenOf}
+use Rattle.walks.specs.Walks.{Says}
 use Rattle.marks.specs.Table.{Left}
 use Rattle.back.specs.Walking.{backWay}
 use Rattle.writer.specs.Delivery.{walkEnd, stuckEnd}

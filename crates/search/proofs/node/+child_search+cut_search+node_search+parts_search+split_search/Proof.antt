@@ -1,12 +1,9 @@
 use Prim.Native.Nat.{ℕ, _+_, _-_, _*_}
-use mathlib.Core.Path.{_≡_, refl, sym, ap, _∙_}
-use mathlib.Core.List.{[], _∷_}
+use mathlib.Core.Path.{_≡_, refl, ap}
 use native.Mathlib.Omega.{arith}
 use lib.ListN.{length}
 use denote.Ref.{now}
 use borrow.Author.Needs.{needs}
-use Rattle.tree.specs.declared.Direction.the-variants.{Horizontal, Vertical}
-use Rattle.tree.specs.declared.Decision.the-variants.{Quad, Binary, Ternary}
 use Rattle.tree.specs.Children.{shares}
 use Rattle.nodes.specs.RowNodes.{childRow}
 use Rattle.walks.specs.Stands.{areaIn}
@@ -15,7 +12,8 @@ use Rattle.walks.proofs.AtEdge.{out-splits-is, edge-gone}
 use Rattle.search.specs.Walking.{searchWay}
 use Rattle.search.proofs.Nodes.{known-asked, known-walked, out-known, in-known, tried-first, tried-second, tried-farther}
 use Rattle.search.proofs.PartWords.{four-parts}
-use Rattle.search.proofs.Steps.{row-there, node-ended, node-elsewhere, node-quad, node-cut, node-leaf, node-other, split-shut, parts-asked, split-tried, parts-ended, part-asked, part-refused, rest-asked, rest-walked}
+use Rattle.search.proofs.Steps.{row-there, node-ended, Ahead, Level, node-elsewhere, node-quad, node-cut, node-leaf, node-other}
+use Rattle.search.proofs.Splits.{split-shut, parts-asked, split-tried, parts-ended, part-asked, part-refused, rest-asked, rest-walked}
 use borrow.Fn.Kinds.{In}
 use borrow.Fn.PlainCycle.{Measures}
 use Rattle.walks.proofs.Cycles.{at, below}
@@ -154,27 +152,49 @@ child-returns-3 t c =
 
 -- ---- a node
 
+-- where the next row is known, and where its depths are, too
+abbrev NodeWord : ℕ → Type 0
+NodeWord t = node-search-lts.After-word-at (node-claims t) (node-search-at t) node-search.Post
+
+abbrev NodeDepths : ℕ → Type 0
+NodeDepths t = node-search-lts.After-mtt-depth2 (node-claims t) (node-search-at t) node-search.Post
+
+node-ahead : (t : ℕ) (wo : NodeWord t) → let pl = wo .before .before in let a = pl .before .before .args in Ahead (now (a .rows)) (now (a .u)) (a .c) (a .row) (a .depths) (a .out) (a .splits) (pl .place .result) (wo .word-at .result)
+node-ahead t wo =
+    let el = wo .before in
+    let pl = el .before in
+    let st = pl .before .before in
+    record { asked = st .pre .1 .0; whole-rows = st .pre .1 .1; place = pl .place .ensures .0; there = el .if1 .left; word-is = wo .word-at .ensures }
+
+abbrev node-word : (t : ℕ) → NodeDepths t → NodeWord t
+node-word t mb = mb .before .before .before .before .before .before
+
+node-level : (t : ℕ) (mb : NodeDepths t) → let wo = node-word t mb in Level (wo .before .before .before .before .args .row) (wo .word-at .result) (mb .before .mtt-depth .result) (mb .mtt-depth2 .result)
+node-level t mb =
+    let ma = mb .before in
+    let ef = ma .before in
+    let qb = ef .before in
+    let a = qb .before .qt-depth .ensures .0 in
+    let b = qb .qt-depth2 .ensures .0 in
+    let h = ef .if3 .left in
+    record { flat = omega arith; x-is = ma .mtt-depth .ensures .0; y-is = mb .mtt-depth2 .ensures .0 }
+
 node-returns : (t : ℕ) → node-search-lts.Need-returns (node-claims t) (node-search-at t) node-search.Post
 node-returns t c =
     let th = c .before in
     let pl = th .before in
-    let st = pl .before .before in
-    node-ended (st .pre .1 .0) (st .pre .1 .1) (pl .place .ensures .0) (th .if1 .taken) (c .refusal .ensures)
+    node-ended (pl .place .ensures .0) (th .if1 .taken) (c .refusal .ensures)
 
 node-word-at-requires : (t : ℕ) → node-search-lts.Need-word-at-requires (node-claims t) (node-search-at t) node-search.Post
 node-word-at-requires t c κs =
     let pl = c .before in
     let st = pl .before .before in
-    row-there (st .pre .1 .0) (st .pre .1 .1) (pl .place .ensures .0) (c .if1 .left)
+    row-there (st .pre .1 .0) (pl .place .ensures .0) (st .pre .1 .1) (c .if1 .left)
 
 node-returns-2 : (t : ℕ) → node-search-lts.Need-returns-2 (node-claims t) (node-search-at t) node-search.Post
 node-returns-2 t c =
     let th = c .before in
-    let wo = th .before in
-    let el = wo .before in
-    let pl = el .before in
-    let st = pl .before .before in
-    node-elsewhere (st .pre .1 .0) (st .pre .1 .1) (pl .place .ensures .0) (el .if1 .left) (wo .word-at .ensures) (th .if2 .taken) (c .refusal2 .ensures)
+    node-elsewhere (node-ahead t (th .before)) (th .if2 .taken) (c .refusal2 .ensures)
 
 node-split-search-requires : (t : ℕ) → node-search-lts.Need-split-search-requires (node-claims t) (node-search-at t) node-search.Post
 node-split-search-requires t c κs =
@@ -187,11 +207,7 @@ node-returns-3 t c =
     let th = c .before in
     let qb = th .before in
     let qa = qb .before in
-    let wo = qa .before .before in
-    let el = wo .before in
-    let pl = el .before in
-    let st = pl .before .before in
-    node-quad (st .pre .1 .0) (st .pre .1 .1) (pl .place .ensures .0) (el .if1 .left) (wo .word-at .ensures) (qa .qt-depth .ensures .0) (qb .qt-depth2 .ensures .0) (th .if3 .taken) (c .split-search .ensures)
+    node-quad (node-ahead t (qa .before .before)) (qa .qt-depth .ensures .0) (qb .qt-depth2 .ensures .0) (th .if3 .taken) (c .split-search .ensures)
 
 node-cut-search-requires : (t : ℕ) → node-search-lts.Need-cut-search-requires (node-claims t) (node-search-at t) node-search.Post
 node-cut-search-requires t c κs =
@@ -203,45 +219,21 @@ node-returns-4 : (t : ℕ) → node-search-lts.Need-returns-4 (node-claims t) (n
 node-returns-4 t c =
     let th = c .before in
     let mb = th .before in
-    let ma = mb .before in
-    let ef = ma .before in
-    let qb = ef .before in
-    let qa = qb .before in
-    let wo = qa .before .before in
-    let el = wo .before in
-    let pl = el .before in
-    let st = pl .before .before in
-    node-cut (st .pre .1 .0) (st .pre .1 .1) (pl .place .ensures .0) (el .if1 .left) (wo .word-at .ensures) (qa .qt-depth .ensures .0) (qb .qt-depth2 .ensures .0) (ef .if3 .left) (ma .mtt-depth .ensures .0) (mb .mtt-depth2 .ensures .0) (th .if4 .taken) (c .cut-search .ensures)
+    node-cut (node-ahead t (node-word t mb)) (node-level t mb) (th .if4 .taken) (c .cut-search .ensures)
 
 node-returns-5 : (t : ℕ) → node-search-lts.Need-returns-5 (node-claims t) (node-search-at t) node-search.Post
 node-returns-5 t c =
     let th = c .before in
     let eq = th .before in
     let mb = eq .before in
-    let ma = mb .before in
-    let ef = ma .before in
-    let qb = ef .before in
-    let qa = qb .before in
-    let wo = qa .before .before in
-    let el = wo .before in
-    let pl = el .before in
-    let st = pl .before .before in
-    node-leaf (st .pre .1 .0) (st .pre .1 .1) (pl .place .ensures .0) (el .if1 .left) (wo .word-at .ensures) (qa .qt-depth .ensures .0) (qb .qt-depth2 .ensures .0) (ef .if3 .left) (ma .mtt-depth .ensures .0) (mb .mtt-depth2 .ensures .0) (eq .if4 .left) (th .if5 .taken) (c .further .ensures)
+    node-leaf (node-ahead t (node-word t mb)) (node-level t mb) (eq .if4 .left) (th .if5 .taken) (c .further .ensures)
 
 node-returns-6 : (t : ℕ) → node-search-lts.Need-returns-6 (node-claims t) (node-search-at t) node-search.Post
 node-returns-6 t c =
     let th = c .before in
     let eq = th .before in
     let mb = eq .before in
-    let ma = mb .before in
-    let ef = ma .before in
-    let qb = ef .before in
-    let qa = qb .before in
-    let wo = qa .before .before in
-    let el = wo .before in
-    let pl = el .before in
-    let st = pl .before .before in
-    node-other (st .pre .1 .0) (st .pre .1 .1) (pl .place .ensures .0) (el .if1 .left) (wo .word-at .ensures) (qa .qt-depth .ensures .0) (qb .qt-depth2 .ensures .0) (ef .if3 .left) (ma .mtt-depth .ensures .0) (mb .mtt-depth2 .ensures .0) (eq .if4 .left) (th .if5 .left) (c .refusal3 .ensures)
+    node-other (node-ahead t (node-word t mb)) (node-level t mb) (eq .if4 .left) (th .if5 .left) (c .refusal3 .ensures)
 
 -- ---- the cuts of a node, one after the other
 
