@@ -65,6 +65,7 @@ pub mod Steps
 pub mod Tables
 pub mod Tests
 pub mod TreeSamples
+pub mod Tries
 pub mod Turning
 pub mod Unique
 pub mod Walks

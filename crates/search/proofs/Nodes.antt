@@ -11,7 +11,7 @@ use Rattle.tree.specs.Splits.{isOut, rightOut, bottomOut, rightsOf, rightsIn}
 use Rattle.tree.specs.Children.{cornerInside}
 use Rattle.tree.specs.Rows.{Row}
 use Rattle.tree.specs.Search.{fitAny, fitNode}
-use Rattle.laws.proofs.Shown.{any-join}
+use Rattle.laws.proofs.Tries.{any-join}
 use Rattle.nodes.specs.State.{givenOf}
 use Rattle.nodes.specs.Tables.{limitsIn}
 use Rattle.nodes.specs.RowNodes.{nodeIn, innerIn, outIn}

@@ -88,30 +88,36 @@ module _ {bytes u : List ℕ} {c row depths : ℕ} {out : Bool} {splits : ℕ} (
 
 -- ---- its parts, one after the other
 
-module _ (u : List ℕ) (row depths : ℕ) (out : Bool) (d : Decision) (i : ℕ) where
-  -- none is left
-  pub parts-ended : {bytes : List ℕ} {c : ℕ} → length (shares d) ≤ i → Walked (searchWay bytes) Outer u c (wordsFrom u row depths out d i (length (shares d) - i)) [] c []
-  parts-ended {bytes} {c} h = rw (words-end u row depths out d i h) (none-walked (searchWay bytes) Outer u c [] refl)
+-- none is left
+pub parts-ended : (u : List ℕ) (row depths : ℕ) (out : Bool) (d : Decision) (i : ℕ) {bytes : List ℕ} {c : ℕ} → length (shares d) ≤ i
+    → Walked (searchWay bytes) Outer u c (wordsFrom u row depths out d i (length (shares d) - i)) [] c []
+parts-ended u row depths out d i {bytes} {c} h = rw (words-end u row depths out d i h) (none-walked (searchWay bytes) Outer u c [] refl)
 
-  module _ (more : i < length (shares d)) {part left : ℕ} (part-is : part ≡ childRow row d i) (left-is : left ≡ leftTo u row depths out d i) where
-    words-are : wordsFrom u row depths out d i (length (shares d) - i) ≡ word part left ∷ wordsFrom u row depths out d (i + 1) (length (shares d) - (i + 1))
-    words-are = words-next u row depths out d i more ∙ ap₂ (λ a b. word a b ∷ wordsFrom u row depths out d (i + 1) (length (shares d) - (i + 1))) (sym part-is) (sym left-is)
+-- one is, with its numbers
+pub record Part (u : List ℕ) (row depths : ℕ) (out : Bool) (d : Decision) (i part left : ℕ) : Type 0 where
+  pub more : i < length (shares d)
+  pub part-is : part ≡ childRow row d i
+  pub left-is : left ≡ leftTo u row depths out d i
 
-    module _ {bytes : List ℕ} {c : ℕ} (asked : Asked (searchWay bytes) Outer u c (wordsFrom u row depths out d i (length (shares d) - i))) where
-      asked-parts : Asked (searchWay bytes) Outer u c (word part left ∷ wordsFrom u row depths out d (i + 1) (length (shares d) - (i + 1)))
-      asked-parts = rw words-are at asked
+module _ {u : List ℕ} {row depths : ℕ} {out : Bool} {d : Decision} {i part left : ℕ} (p : Part u row depths out d i part left) where
+  words-are : wordsFrom u row depths out d i (length (shares d) - i) ≡ word part left ∷ wordsFrom u row depths out d (i + 1) (length (shares d) - (i + 1))
+  words-are = words-next u row depths out d i (p .more) ∙ ap₂ (λ a b. word a b ∷ wordsFrom u row depths out d (i + 1) (length (shares d) - (i + 1))) (sym (p .part-is)) (sym (p .left-is))
 
-      pub part-asked : Asked (searchWay bytes) Outer u c (word part left ∷ [])
-      part-asked = asked-first (searchWay bytes) Outer (search-lawful bytes) outer-placed asked-parts
+  module _ {bytes : List ℕ} {c : ℕ} (asked : Asked (searchWay bytes) Outer u c (wordsFrom u row depths out d i (length (shares d) - i))) where
+    asked-parts : Asked (searchWay bytes) Outer u c (word part left ∷ wordsFrom u row depths out d (i + 1) (length (shares d) - (i + 1)))
+    asked-parts = rw words-are at asked
 
-      module _ {r : ℕ} (first : Walked (searchWay bytes) Outer u c (word part left ∷ []) [] r []) where
-        pub part-refused : 9223372036854775808 ≤ r → Walked (searchWay bytes) Outer u c (wordsFrom u row depths out d i (length (shares d) - i)) [] r []
-        part-refused h = rw words-are (walked-stop (searchWay bytes) Outer (search-lawful bytes) outer-placed first h)
+    pub part-asked : Asked (searchWay bytes) Outer u c (word part left ∷ [])
+    part-asked = asked-first (searchWay bytes) Outer (search-lawful bytes) outer-placed asked-parts
 
-        module _ {x : ℕ} (on : (x ≡ r) × (r < 9223372036854775808)) where
-          pub rest-asked : Asked (searchWay bytes) Outer u x (wordsFrom u row depths out d (i + 1) (length (shares d) - (i + 1)))
-          rest-asked = asked-rest (searchWay bytes) Outer (search-lawful bytes) outer-placed first on asked-parts
+    module _ {r : ℕ} (first : Walked (searchWay bytes) Outer u c (word part left ∷ []) [] r []) where
+      pub part-refused : 9223372036854775808 ≤ r → Walked (searchWay bytes) Outer u c (wordsFrom u row depths out d i (length (shares d) - i)) [] r []
+      part-refused h = rw words-are (walked-stop (searchWay bytes) Outer (search-lawful bytes) outer-placed first h)
 
-          pub rest-walked : {q : ℕ} → Walked (searchWay bytes) Outer u x (wordsFrom u row depths out d (i + 1) (length (shares d) - (i + 1))) [] q []
-              → Walked (searchWay bytes) Outer u c (wordsFrom u row depths out d i (length (shares d) - i)) [] q []
-          rest-walked w = rw words-are (walked-rest (searchWay bytes) Outer (search-lawful bytes) outer-placed first on w)
+      module _ {x : ℕ} (on : (x ≡ r) × (r < 9223372036854775808)) where
+        pub rest-asked : Asked (searchWay bytes) Outer u x (wordsFrom u row depths out d (i + 1) (length (shares d) - (i + 1)))
+        rest-asked = asked-rest (searchWay bytes) Outer (search-lawful bytes) outer-placed first on asked-parts
+
+        pub rest-walked : {q : ℕ} → Walked (searchWay bytes) Outer u x (wordsFrom u row depths out d (i + 1) (length (shares d) - (i + 1))) [] q []
+            → Walked (searchWay bytes) Outer u c (wordsFrom u row depths out d i (length (shares d) - i)) [] q []
+        rest-walked w = rw words-are (walked-rest (searchWay bytes) Outer (search-lawful bytes) outer-placed first on w)

@@ -17,7 +17,8 @@ use Rattle.tree.specs.Rows.{Row, rowOf, rowAt}
 use Rattle.tree.specs.Back.{sameRow}
 use Rattle.tree.specs.Search.{whole, stuck, fitAny, cuts, fitNode, shown}
 use Rattle.laws.proofs.Runs.{over-one}
-use Rattle.laws.proofs.Shown.{Starts, any-leaf, node-none, node-pruned, fit-shown}
+use Rattle.laws.proofs.Shown.{Starts, node-none, node-pruned, fit-shown}
+use Rattle.laws.proofs.Tries.{any-leaf}
 use Rattle.nodes.specs.State.{refusal, placeOf}
 use Rattle.walks.specs.Stands.{word, no-more, one-more}
 use Rattle.walks.specs.Walks.{Asked, Walked}

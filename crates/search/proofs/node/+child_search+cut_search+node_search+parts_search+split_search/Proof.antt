@@ -1,11 +1,10 @@
-use Prim.Native.Nat.{ℕ, _+_, _-_, _*_}
-use mathlib.Core.Path.{_≡_, refl, ap}
+use Prim.Native.Nat.{ℕ, _+_, _-_, _*_, _≤_}
+use mathlib.Core.Path.{refl, ap}
 use native.Mathlib.Omega.{arith}
 use lib.ListN.{length}
 use denote.Ref.{now}
 use borrow.Author.Needs.{needs}
 use Rattle.tree.specs.Children.{shares}
-use Rattle.nodes.specs.RowNodes.{childRow}
 use Rattle.walks.specs.Stands.{areaIn}
 use Rattle.walks.proofs.Apart.{tested-not, tested-or, was-walked, was-refused}
 use Rattle.walks.proofs.AtEdge.{out-splits-is, edge-gone}
@@ -13,7 +12,7 @@ use Rattle.search.specs.Walking.{searchWay}
 use Rattle.search.proofs.Nodes.{known-asked, known-walked, out-known, in-known, tried-first, tried-second, tried-farther}
 use Rattle.search.proofs.PartWords.{four-parts}
 use Rattle.search.proofs.Steps.{row-there, node-ended, Ahead, Level, node-elsewhere, node-quad, node-cut, node-leaf, node-other}
-use Rattle.search.proofs.Splits.{split-shut, parts-asked, split-tried, parts-ended, part-asked, part-refused, rest-asked, rest-walked}
+use Rattle.search.proofs.Splits.{split-shut, parts-asked, split-tried, parts-ended, Part, part-asked, part-refused, rest-asked, rest-walked}
 use borrow.Fn.Kinds.{In}
 use borrow.Fn.PlainCycle.{Measures}
 use Rattle.walks.proofs.Cycles.{at, below}
@@ -261,6 +260,34 @@ cut-split-search-requires-4 t c κs =
     let m = st .pre .0 in
     (omega arith, (st .pre .1 .0, st .pre .1 .1, refl))
 
+-- where the first, the second and the third were refused, and the calls that answered so
+abbrev CutOne : ℕ → Type 0
+CutOne t = cut-search-lts.After-enum-told (cut-claims t) (cut-search-at t) cut-search.Post
+
+abbrev CutTwo : ℕ → Type 0
+CutTwo t = cut-search-lts.After-enum-told3 (cut-claims t) (cut-search-at t) cut-search.Post
+
+abbrev CutThree : ℕ → Type 0
+CutThree t = cut-search-lts.After-enum-told5 (cut-claims t) (cut-search-at t) cut-search.Post
+
+abbrev cut-call1 : (t : ℕ) → CutOne t → cut-search-lts.After-split-search (cut-claims t) (cut-search-at t) cut-search.Post
+cut-call1 t k = k .before .before .before
+
+abbrev cut-call2 : (t : ℕ) → CutTwo t → cut-search-lts.After-split-search2 (cut-claims t) (cut-search-at t) cut-search.Post
+cut-call2 t k = k .before .before .before
+
+abbrev cut-call3 : (t : ℕ) → CutThree t → cut-search-lts.After-split-search3 (cut-claims t) (cut-search-at t) cut-search.Post
+cut-call3 t k = k .before .before .before
+
+cut-refused1 : (t : ℕ) (k : CutOne t) → 9223372036854775808 ≤ cut-call1 t k .split-search .result
+cut-refused1 t k = was-refused _ (k .before .before .child-answer .ensures) (k .enum-told .given .1)
+
+cut-refused2 : (t : ℕ) (k : CutTwo t) → 9223372036854775808 ≤ cut-call2 t k .split-search2 .result
+cut-refused2 t k = was-refused _ (k .before .before .child-answer2 .ensures) (k .enum-told3 .given .1)
+
+cut-refused3 : (t : ℕ) (k : CutThree t) → 9223372036854775808 ≤ cut-call3 t k .split-search3 .result
+cut-refused3 t k = was-refused _ (k .before .before .child-answer3 .ensures) (k .enum-told5 .given .1)
+
 cut-returns : (t : ℕ) → cut-search-lts.Need-returns (cut-claims t) (cut-search-at t) cut-search.Post
 cut-returns t c =
     let ca = c .before .before in
@@ -271,36 +298,26 @@ cut-returns-2 t c =
     let ca = c .before .before in
     let on = was-walked _ (ca .child-answer2 .ensures) (c .enum-told4 .given .1) .1 in
     let k1 = ca .before .before in
-    let a1 = k1 .before .before in
-    let h1 = was-refused _ (a1 .child-answer .ensures) (k1 .enum-told .given .1) in
-    tried-second (a1 .before .split-search .ensures) h1 (tried-first (ca .before .split-search2 .ensures) on) on
+    tried-second (cut-call1 t k1 .split-search .ensures) (cut-refused1 t k1) (tried-first (ca .before .split-search2 .ensures) on) on
 
 cut-returns-3 : (t : ℕ) → cut-search-lts.Need-returns-3 (cut-claims t) (cut-search-at t) cut-search.Post
 cut-returns-3 t c =
     let ca = c .before .before in
     let on = was-walked _ (ca .child-answer3 .ensures) (c .enum-told6 .given .1) .1 in
     let k2 = ca .before .before in
-    let a2 = k2 .before .before in
-    let h2 = was-refused _ (a2 .child-answer2 .ensures) (k2 .enum-told3 .given .1) in
-    let k1 = a2 .before .before in
-    let a1 = k1 .before .before in
-    let h1 = was-refused _ (a1 .child-answer .ensures) (k1 .enum-told .given .1) in
-    tried-second (a1 .before .split-search .ensures) h1 (tried-second (a2 .before .split-search2 .ensures) h2 (tried-first (ca .before .split-search3 .ensures) on) on) on
+    let k1 = cut-call2 t k2 .before in
+    tried-second (cut-call1 t k1 .split-search .ensures) (cut-refused1 t k1)
+    (tried-second (cut-call2 t k2 .split-search2 .ensures) (cut-refused2 t k2) (tried-first (ca .before .split-search3 .ensures) on) on) on
 
 cut-returns-4 : (t : ℕ) → cut-search-lts.Need-returns-4 (cut-claims t) (cut-search-at t) cut-search.Post
 cut-returns-4 t c =
     let ca = c .before .before in
     let on = was-walked _ (ca .child-answer4 .ensures) (c .enum-told8 .given .1) .1 in
     let k3 = ca .before .before in
-    let a3 = k3 .before .before in
-    let h3 = was-refused _ (a3 .child-answer3 .ensures) (k3 .enum-told5 .given .1) in
-    let k2 = a3 .before .before in
-    let a2 = k2 .before .before in
-    let h2 = was-refused _ (a2 .child-answer2 .ensures) (k2 .enum-told3 .given .1) in
-    let k1 = a2 .before .before in
-    let a1 = k1 .before .before in
-    let h1 = was-refused _ (a1 .child-answer .ensures) (k1 .enum-told .given .1) in
-    tried-second (a1 .before .split-search .ensures) h1 (tried-second (a2 .before .split-search2 .ensures) h2 (tried-second (a3 .before .split-search3 .ensures) h3 (ca .before .split-search4 .ensures) on) on) on
+    let k2 = cut-call3 t k3 .before in
+    let k1 = cut-call2 t k2 .before in
+    tried-second (cut-call1 t k1 .split-search .ensures) (cut-refused1 t k1)
+    (tried-second (cut-call2 t k2 .split-search2 .ensures) (cut-refused2 t k2) (tried-second (cut-call3 t k3 .split-search3 .ensures) (cut-refused3 t k3) (ca .before .split-search4 .ensures) on) on) on
 
 cut-returns-5 : (t : ℕ) → cut-search-lts.Need-returns-5 (cut-claims t) (cut-search-at t) cut-search.Post
 cut-returns-5 t c =
@@ -308,19 +325,12 @@ cut-returns-5 t c =
     let f1 = f2 .before in
     let k4 = f1 .before in
     let a4 = k4 .before .before in
-    let h4 = was-refused _ (a4 .child-answer4 .ensures) (k4 .enum-told7 .given .1) in
     let k3 = a4 .before .before in
-    let a3 = k3 .before .before in
-    let h3 = was-refused _ (a3 .child-answer3 .ensures) (k3 .enum-told5 .given .1) in
-    let k2 = a3 .before .before in
-    let a2 = k2 .before .before in
-    let h2 = was-refused _ (a2 .child-answer2 .ensures) (k2 .enum-told3 .given .1) in
-    let k1 = a2 .before .before in
-    let a1 = k1 .before .before in
-    let h1 = was-refused _ (a1 .child-answer .ensures) (k1 .enum-told .given .1) in
-    let last = tried-farther (a3 .before .split-search3 .ensures) h3 (a4 .before .split-search4 .ensures) h4 (f1 .farther .ensures) in
-    let later = tried-farther (a2 .before .split-search2 .ensures) h2 (last .0) (last .1) (f2 .farther2 .ensures) in
-    tried-farther (a1 .before .split-search .ensures) h1 (later .0) (later .1) (c .farther3 .ensures) .0
+    let k2 = cut-call3 t k3 .before in
+    let k1 = cut-call2 t k2 .before in
+    let last = tried-farther (cut-call3 t k3 .split-search3 .ensures) (cut-refused3 t k3) (a4 .before .split-search4 .ensures) (was-refused _ (a4 .child-answer4 .ensures) (k4 .enum-told7 .given .1)) (f1 .farther .ensures) in
+    let later = tried-farther (cut-call2 t k2 .split-search2 .ensures) (cut-refused2 t k2) (last .0) (last .1) (f2 .farther2 .ensures) in
+    tried-farther (cut-call1 t k1 .split-search .ensures) (cut-refused1 t k1) (later .0) (later .1) (c .farther3 .ensures) .0
 
 -- ---- a split
 
@@ -357,48 +367,44 @@ parts-returns t c =
     let h = c .if1 .taken in
     parts-ended (now (a .u)) (a .row) (a .depths) (a .out) (a .d) (a .i) (omega arith)
 
+-- the numbers of the next part
+parts-part : (t : ℕ) (le : parts-search-lts.After-left-to (parts-claims t) (parts-search-at t) parts-search.Post) → let cr = le .before in let a = cr .before .before .before .before .args in Part (now (a .u)) (a .row) (a .depths) (a .out) (a .d) (a .i) (cr .child-row .result) (le .left-to .result)
+parts-part t le =
+    let cr = le .before in
+    let el = cr .before in
+    let e = el .before .parts .ensures .0 in
+    let h = el .if1 .left in
+    record { more = omega arith; part-is = cr .child-row .ensures; left-is = le .left-to .ensures }
+
+abbrev parts-start : (t : ℕ) → parts-search-lts.After-left-to (parts-claims t) (parts-search-at t) parts-search.Post → parts-search-lts.Start (parts-claims t) (parts-search-at t) parts-search.Post
+parts-start t le = le .before .before .before .before .before
+
 parts-child-search-requires : (t : ℕ) → parts-search-lts.Need-child-search-requires (parts-claims t) (parts-search-at t) parts-search.Post
 parts-child-search-requires t c κs =
-    let cr = c .before in
-    let el = cr .before in
-    let pa = el .before in
-    let st = pa .before .before in
-    let a = st .args in
-    let e = pa .parts .ensures .0 in
-    let h = el .if1 .left in
+    let st = parts-start t c in
+    let p = parts-part t c in
     let m = st .pre .0 in
-    let less = st .pre .1 .2 .each (a .i) (omega arith) in
-    let same : areaIn (cr .child-row .result) ≡ areaIn (childRow (a .row) (a .d) (a .i)) = ap (λ (x : ℕ). areaIn x) (cr .child-row .ensures) in
-    (omega arith, (part-asked (now (a .u)) (a .row) (a .depths) (a .out) (a .d) (a .i) (omega arith) (cr .child-row .ensures) (c .left-to .ensures) (st .pre .1 .0), st .pre .1 .1))
+    let less = st .pre .1 .2 .each (st .args .i) (p .more) in
+    let same = ap (λ (x : ℕ). areaIn x) (p .part-is) in
+    (omega arith, (part-asked p (st .pre .1 .0), st .pre .1 .1))
 
 parts-returns-2 : (t : ℕ) → parts-search-lts.Need-returns-2 (parts-claims t) (parts-search-at t) parts-search.Post
 parts-returns-2 t c =
     let ca = c .before .before in
     let cs = ca .before in
     let le = cs .before in
-    let cr = le .before in
-    let el = cr .before in
-    let pa = el .before in
-    let st = pa .before .before in
-    let a = st .args in
-    let e = pa .parts .ensures .0 in
-    let h = el .if1 .left in
-    part-refused (now (a .u)) (a .row) (a .depths) (a .out) (a .d) (a .i) (omega arith) (cr .child-row .ensures) (le .left-to .ensures) (st .pre .1 .0) (cs .child-search .ensures) (was-refused _ (ca .child-answer .ensures) (c .enum-told .given .1))
+    part-refused (parts-part t le) (parts-start t le .pre .1 .0) (cs .child-search .ensures) (was-refused _ (ca .child-answer .ensures) (c .enum-told .given .1))
 
 parts-parts-search-requires : (t : ℕ) → parts-search-lts.Need-parts-search-requires (parts-claims t) (parts-search-at t) parts-search.Post
 parts-parts-search-requires t c κs =
     let ca = c .before .before .before in
     let cs = ca .before in
     let le = cs .before in
-    let cr = le .before in
-    let el = cr .before in
-    let pa = el .before in
-    let st = pa .before .before in
-    let a = st .args in
-    let e = pa .parts .ensures .0 in
-    let h = el .if1 .left in
+    let st = parts-start t le in
+    let p = parts-part t le in
     let m = st .pre .0 in
-    (omega arith, (rest-asked (now (a .u)) (a .row) (a .depths) (a .out) (a .d) (a .i) (omega arith) (cr .child-row .ensures) (le .left-to .ensures) (st .pre .1 .0) (cs .child-search .ensures) (was-walked _ (ca .child-answer .ensures) (c .before .c1 .given .1)), st .pre .1 .1, st .pre .1 .2))
+    let h = p .more in
+    (omega arith, (rest-asked p (st .pre .1 .0) (cs .child-search .ensures) (was-walked _ (ca .child-answer .ensures) (c .before .c1 .given .1)), st .pre .1 .1, st .pre .1 .2))
 
 parts-returns-3 : (t : ℕ) → parts-search-lts.Need-returns-3 (parts-claims t) (parts-search-at t) parts-search.Post
 parts-returns-3 t c =
@@ -406,14 +412,7 @@ parts-returns-3 t c =
     let ca = kt .before .before .before in
     let cs = ca .before in
     let le = cs .before in
-    let cr = le .before in
-    let el = cr .before in
-    let pa = el .before in
-    let st = pa .before .before in
-    let a = st .args in
-    let e = pa .parts .ensures .0 in
-    let h = el .if1 .left in
-    rest-walked (now (a .u)) (a .row) (a .depths) (a .out) (a .d) (a .i) (omega arith) (cr .child-row .ensures) (le .left-to .ensures) (st .pre .1 .0) (cs .child-search .ensures) (was-walked _ (ca .child-answer .ensures) (kt .before .c1 .given .1)) (c .parts-search .ensures)
+    rest-walked (parts-part t le) (parts-start t le .pre .1 .0) (cs .child-search .ensures) (was-walked _ (ca .child-answer .ensures) (kt .before .c1 .given .1)) (c .parts-search .ensures)
 
 pub +child-search+cut-search+node-search+parts-search+split-search-spec : {M : Type 1} → statement M
 +child-search+cut-search+node-search+parts-search+split-search-spec =
