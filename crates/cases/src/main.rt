@@ -239,16 +239,22 @@ fn say_ways_back() {
     );
 }
 
-// P2's rows, the first two of them exchanged.
+// P2's table cut short, gone on with a row of zeros, and empty.
+fn say_stops() {
+    let a = setting_a(64);
+    say_round(b"three of P2's rows: ", a, 0, b"\x01\x00\x00\x00\x00", 24);
+    say_round(
+        b"P2's rows and one more: ",
+        a,
+        0,
+        b"\x01\x00\x00\x00\x00",
+        40,
+    );
+    say_round(b"P10, no row: ", a, 0, b"\x01\x00\x00\x00\x00", 0);
+}
+
+// P2's rows, the second and the third of them exchanged.
 const EXCHANGED: [u8; 32] = [
-    32,
-    0,
-    0,
-    0,
-    5,
-    5,
-    1,
-    0,
     0,
     0,
     0,
@@ -260,6 +266,14 @@ const EXCHANGED: [u8; 32] = [
     0,
     0,
     32,
+    0,
+    5,
+    5,
+    1,
+    0,
+    32,
+    0,
+    0,
     0,
     5,
     5,
@@ -326,4 +340,5 @@ fn main() {
     say_refusals();
     say_ways_back();
     say_refused_back();
+    say_stops();
 }
