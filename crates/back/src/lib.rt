@@ -1,4 +1,5 @@
-// The walk of the way back: the rows of a tree, of any kind, become its flags, in a scratch table, or refusal 16.
+// The walk of the way back: the rows of a tree, of any kind, become its flags, in a scratch table, or it is
+// refused; number and place are then found by crate search.
 mod edge;
 mod inside;
 

@@ -35,7 +35,8 @@ pub extern "C" fn colwythar_read_unit(
     put_answer(a, answer);
 }
 
-// Turns the rows of a unit back into the flag buffer: refusals 1 to 10 and 15 to 17, or the number of flags.
+// Turns the rows of a unit back into the flag buffer: refusals 1 to 10, 15, 27, 28, 16 and 17, or the
+// number of flags.
 #[no_mangle]
 pub extern "C" fn colwythar_write_flags(
     settings: &[u32; 8],

@@ -1,5 +1,5 @@
--- R-1: the partition page of a unit: the way back's refusals 1 to 10, 15 and 16, then 23; the number of bytes, and the lent page
--- afterwards.
+-- R-1: the partition page of a unit: the way back's refusals 1 to 10, 15, 27, 28 and 16, then 23; the number of bytes, and the lent
+-- page afterwards.
 use Prim.Native.Nat.{ℕ}
 use mathlib.Core.List.{List}
 use lib.ListN.{length}
