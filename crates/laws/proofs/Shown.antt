@@ -19,7 +19,7 @@ use Rattle.tree.specs.Kind.{Kind}
 use Rattle.tree.specs.Splits.{isSplit, rightsOf, allows}
 use Rattle.tree.specs.Children.{share, slab, shares, childQt, childMtt, child, childrenFrom, children, cornerInside}
 use Rattle.tree.specs.Rows.{Row, rowOf, ownRows}
-use Rattle.tree.specs.Search.{Fit, whole, stuck, fitThen, better, fitRows, fitAll, fitBy, fitAny, cuts, decisions, fit, fitNode, shown}
+use Rattle.tree.specs.Search.{Fit, whole, stuck, fitThen, better, fitRows, fitAll, fitBy, fitAny, cuts, decisions, fit, fitNode}
 use Rattle.tree.specs.Tree.{Trees, Tree, rowsOf}
 use Rattle.laws.specs.Directions.{corner}
 use Rattle.laws.specs.Good.{Good}
@@ -81,6 +81,10 @@ module _ (k : Kind) (n : Node) (here : cornerInside (k .limits) n ≡ true) wher
   led-by (Ternary d) t = led-below (Ternary d) (slab d 0 1 0) (cut-from d 1) (t .1)
 
 -- ---- the search
+
+-- the decisions that a row shows by its depths: no other takes it
+unfoldable pub shown : Node → Row → List Decision
+shown n r = cond (ltb (n .qt) (r .qt)) (Quad ∷ []) (cond (eqb (r .mtt) (n .mtt)) (Leaf ∷ []) cuts)
 
 module _ {k : Kind} (v : Proper k) {n : Node} (p : Good (k .limits) n) (here : cornerInside (k .limits) n ≡ true) (fits : n .w + n .h + n .qt + n .mtt ≤ 256) where
   level : n .qt + n .mtt < 256

@@ -15,9 +15,9 @@ use Rattle.tree.specs.Kind.{Kind}
 use Rattle.tree.specs.Splits.{allows}
 use Rattle.tree.specs.Rows.{Row, rowOf, rowAt}
 use Rattle.tree.specs.Back.{sameRow}
-use Rattle.tree.specs.Search.{whole, stuck, fitAny, cuts, fitNode, shown}
+use Rattle.tree.specs.Search.{whole, stuck, fitAny, cuts, fitNode}
 use Rattle.laws.proofs.Runs.{over-one}
-use Rattle.laws.proofs.Shown.{Starts, node-none, node-pruned, fit-shown}
+use Rattle.laws.proofs.Shown.{Starts, shown, node-none, node-pruned, fit-shown}
 use Rattle.laws.proofs.Tries.{any-leaf}
 use Rattle.nodes.specs.State.{refusal, placeOf}
 use Rattle.walks.specs.Stands.{word, no-more, one-more}
