@@ -89,7 +89,7 @@ extern "C" {
 #define COLWYTHAR_CUT_ROW           15 /* row bytes no multiple of 8; place: the whole rows */
 #define COLWYTHAR_ROWS_END          27 /* a row is missing: the table ends too early; place: the number of rows */
 #define COLWYTHAR_ROWS_LEFT         28 /* rows follow a whole table; place: the first of them, its number of rows */
-#define COLWYTHAR_NO_TREE           16 /* no flags give these rows; place: how many, at most, some table begins with */
+#define COLWYTHAR_NO_TREE           16 /* no flags give these rows; place: the most leading rows that some table begins with */
 #define COLWYTHAR_SHORT_FLAG_BUFFER 17 /* flag buffer too short; place: the flags needed */
 
 /* The session. */
