@@ -11,6 +11,14 @@ pub fn longer(rows: &[u8]) -> Vec<Vec<u8>> {
     more.map(|row| [rows, row].concat()).collect()
 }
 
+/// The table with another height in its last row.
+pub fn at_end(rows: &[u8]) -> Vec<u8> {
+    let mut table = rows.to_vec();
+    let height = table.len() - 3;
+    table[height] += 1;
+    table
+}
+
 /// The table without this row.
 pub fn left_out(rows: &[u8], row: usize) -> Vec<u8> {
     [&rows[..8 * row], &rows[8 * (row + 1)..]].concat()

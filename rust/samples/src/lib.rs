@@ -3,8 +3,9 @@
 //! Settings, legal trees of several styles, and damage to flags and tables come from a small
 //! generator with a fixed seed, so that every run sees the same inputs; `broken` lists every table
 //! that one small change makes of another, `small` settings with few trees. The examples are those
-//! of document 01, the units with the most flags, and one with the deepest rows. Trees are walked
-//! with the allowed splits of the crate `h266`; the engine is not needed here.
+//! of document 01, the units with the most flags, one with the deepest rows, and the broken table
+//! that is the hardest to refuse. Trees are walked with the allowed splits of the crate `h266`; the
+//! engine is not needed here.
 //!
 //! ```
 //! use samples::{trees, Rng, Style};
@@ -20,6 +21,7 @@
 pub mod broken;
 pub mod damage;
 pub mod deepest;
+pub mod hardest;
 pub mod longest;
 pub mod paper;
 mod rng;

@@ -3,7 +3,7 @@
 use differential::{pages, Engine};
 use h266::Settings;
 use samples::paper::{examples, Example};
-use samples::{broken, trees, Rng, Style};
+use samples::{broken, hardest, trees, Rng, Style};
 
 /// As many flag bytes as any unit needs.
 const ROOM: usize = 8_192;
@@ -110,6 +110,18 @@ fn tables_longer_than_any_units() {
     assert_eq!(four.stop(&four.rows.repeat(2_000)), (28, 4));
     assert_eq!(four.stop(&four.rows[..8].repeat(2_000)), (16, 1));
     assert_eq!(four.stop(&four.rows[8..].repeat(2_000)), (16, 0));
+}
+
+/// Broken at its end, and cut before each of its rows.
+#[test]
+fn the_hardest_table() {
+    let (engine, rng) = (Engine::default(), Rng::new(116));
+    let (settings, rows) = (hardest::SETTINGS, hardest::rows());
+    let mut table = Table { engine, rng, settings, address: 0, rows: rows.clone() };
+    assert_eq!(table.stop(&rows), (16, 1_023));
+    for row in 0..1_024 {
+        assert_eq!(table.stop(&rows[..8 * row]), (27, row));
+    }
 }
 
 /// Rows of random bytes, and tables that look like a tree's where they begin.
