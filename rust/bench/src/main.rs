@@ -2,12 +2,15 @@
 //! Rust from the standard's text, and `tuned`, safe Rust driven by hand.
 //!
 //! `bench` prints Markdown tables; `bench callgrind ...` runs one kind of call without a clock, so
-//! that its instructions can be counted. `bench --help` explains both.
+//! that its instructions can be counted; `bench search ...` looks for broken tables that take the
+//! engine long to refuse. `bench --help` explains all three.
 #![forbid(unsafe_code)]
 
+mod broken;
 mod callgrind;
 mod camera;
 mod classes;
+mod search;
 mod timing;
 mod work;
 
@@ -16,10 +19,11 @@ use std::process::ExitCode;
 const HELP: &str = "\
 usage: bench
        bench callgrind WORK CLASS CALLS
+       bench search SECONDS SEED
 
-Without arguments: times reading, the way back and the page for five classes of units, and a
-worst-case second of four cameras, and prints Markdown tables. Each side is warmed up; the sides
-take turns within each round, and the best round counts.
+Without arguments: times reading, the way back and the page for five classes of units, the refusal
+of broken tables, and a worst-case second of four cameras, and prints Markdown tables. Each side is
+warmed up; the sides take turns within each round, and the best round counts.
 
 callgrind: makes CALLS calls of one kind, without a clock. WORK is a side (engine, h266 or
 tuned) and a way (read, write or page), like engine-read; tuned has no page. CLASS is 1, mixed, 64,
@@ -32,6 +36,9 @@ To count only the instructions of the calls:
 and divide the figure `Collected` by CALLS. The loop itself adds about twenty instructions a call.
 Valgrind counts one instruction for each byte that is cleared; callgrind_annotate shows them under
 memset, so that they can be taken off.
+
+search: changes trees and faults at random, for so many seconds, and prints those whose tables lead
+a model of the engine's search through the most nodes, with their settings, faults and flags.
 ";
 
 fn main() -> ExitCode {
@@ -41,10 +48,15 @@ fn main() -> ExitCode {
         [] => {
             timing::print_table();
             timing::print_pages();
+            broken::print_refusals();
             camera::print_second();
             ExitCode::SUCCESS
         }
         ["callgrind", work, class, calls] => match callgrind::run(work, class, calls) {
+            Some(()) => ExitCode::SUCCESS,
+            None => usage(),
+        },
+        ["search", seconds, seed] => match search::run(seconds, seed) {
             Some(()) => ExitCode::SUCCESS,
             None => usage(),
         },
