@@ -19,6 +19,9 @@ pub fn leading_rows(u: &Table, rows: &[u8], row: u64, out: bool, splits: u32) ->
     requires { ⌜ SomeRoot (now u) row out splits × (length (now rows) % 8 ≡ 0) ⌝ }
     ensures { λ r. ⌜ ((k : Kind) (root : Nodes.Node) → Given k root (now (u .entry)) row out splits → (left : ℕ) → fitNode k root (rowsIn (now (rows .entry))) ≡ stuck left → r ≡ length (now (rows .entry)) / 8 - left) ⌝ }
 {
+    if rows.len() == 0 {
+        return 0;
+    }
     let depths = nodes::depth_above(u);
     let answer = node::node_search(u, rows, 0, row, depths, out, splits);
     nodes::refusal_place(answer)

@@ -15,22 +15,31 @@ use tree::Direction;
 ghost use mathlib.Core.Path.{_≡_};
 ghost use mathlib.Core.Bool.{true};
 ghost use mathlib.Core.List.{[], _∷_};
-ghost use Prim.Native.Nat.{_-_, _%_};
+ghost use Prim.Native.Nat.{_-_, _%_, _<_};
 ghost use lib.ListN.{length};
 ghost use Rattle.tree.specs.Splits.{isSplit};
 ghost use Rattle.tree.specs.Children.{shares};
 ghost use Rattle.tree.specs.Search.{cuts};
+ghost use Rattle.nodes.specs.State.{placeOf};
 ghost use Rattle.walks.specs.Stands.{word, Outer};
 ghost use Rattle.walks.specs.Walks.{Asked, Walked};
 ghost use Rattle.search.specs.Walking.{searchWay, wordsFrom, Falls, Known, Tried};
 
-// A child; one whose corner is outside the picture is skipped.
+// A child; one whose corner is outside the picture is skipped. The next row starts at its corner, or it takes none.
 pub(crate) fn child_search(u: &Table, rows: &[u8], c: u64, row: u64, depths: u32) -> u64
     requires { ⌜ Asked (searchWay (now rows)) Outer (now u) c (word row depths ∷ []) × (length (now rows) % 8 ≡ 0) ⌝ }
     ensures { λ r. ⌜ Walked (searchWay (now (rows .entry))) Outer (now (u .entry)) c (word row depths ∷ []) [] r [] ⌝ }
 {
     if !nodes::begins_inside(u, row) {
         return c;
+    }
+    let at = nodes::place(c);
+    if rows.len() <= at {
+        return nodes::refusal(16, at / 8);
+    }
+    let ahead = rows;
+    if word_at(ahead, at) % ROW_WIDTH != row % ROW_WIDTH {
+        return nodes::refusal(16, at / 8);
     }
     let right = nodes::right_out_at(u, row);
     let bottom = nodes::bottom_out_at(u, row);
@@ -40,11 +49,11 @@ pub(crate) fn child_search(u: &Table, rows: &[u8], c: u64, row: u64, depths: u32
         return node_search(u, after, c, row, depths, true, splits);
     }
     let splits = nodes::inner_splits(u, row, depths);
-    let ahead = rows;
-    node_search(u, ahead, c, row, depths, false, splits)
+    let after = rows;
+    node_search(u, after, c, row, depths, false, splits)
 }
 
-// A node whose open splits are known. The next row starts at its corner; its depths say which decisions there may be.
+// A node whose open splits are known, with a row ahead: its depths say which decisions there may be.
 pub(crate) fn node_search(
     u: &Table,
     rows: &[u8],
@@ -54,18 +63,12 @@ pub(crate) fn node_search(
     out: bool,
     splits: u32,
 ) -> u64
-    requires { ⌜ Asked (searchWay (now rows)) (Known out splits) (now u) c (word row depths ∷ []) × (length (now rows) % 8 ≡ 0) ⌝ }
+    requires { ⌜ Asked (searchWay (now rows)) (Known out splits) (now u) c (word row depths ∷ []) × (length (now rows) % 8 ≡ 0) × (placeOf c < length (now rows)) ⌝ }
     ensures { λ r. ⌜ Walked (searchWay (now (rows .entry))) (Known out splits) (now (u .entry)) c (word row depths ∷ []) [] r [] ⌝ }
 {
     let at = nodes::place(c);
-    if rows.len() <= at {
-        return nodes::refusal(16, at / 8);
-    }
     let ahead = rows;
     let next = word_at(ahead, at);
-    if next % ROW_WIDTH != row % ROW_WIDTH {
-        return nodes::refusal(16, at / 8);
-    }
     if nodes::qt_depth(row) < nodes::qt_depth(next) {
         let after = rows;
         return split_search(u, after, c, row, depths, out, splits, Decision::Quad);

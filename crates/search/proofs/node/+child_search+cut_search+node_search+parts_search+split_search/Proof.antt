@@ -1,17 +1,21 @@
-use Prim.Native.Nat.{ℕ, _+_, _-_, _*_, _≤_}
-use mathlib.Core.Path.{refl, ap}
+use Prim.Native.Nat.{ℕ, _+_, _-_, _*_, _≤_, _<_}
+use mathlib.Core.Path.{_≡_, refl, ap}
+use mathlib.Core.Bool.{true}
 use native.Mathlib.Omega.{arith}
 use lib.ListN.{length}
 use denote.Ref.{now}
 use borrow.Author.Needs.{needs}
-use Rattle.tree.specs.Children.{shares}
+use Rattle.tree.specs.Children.{shares, cornerInside}
+use Rattle.nodes.specs.State.{placeOf}
+use Rattle.nodes.specs.Tables.{limitsIn}
+use Rattle.nodes.specs.RowNodes.{nodeIn}
 use Rattle.walks.specs.Stands.{areaIn}
 use Rattle.walks.proofs.Apart.{tested-not, tested-or, was-walked, was-refused}
 use Rattle.walks.proofs.AtEdge.{out-splits-is, edge-gone}
 use Rattle.search.specs.Walking.{searchWay}
 use Rattle.search.proofs.Nodes.{known-asked, known-walked, out-known, in-known, tried-first, tried-second, tried-farther}
 use Rattle.search.proofs.PartWords.{four-parts}
-use Rattle.search.proofs.Steps.{row-there, node-ended, Ahead, Level, node-elsewhere, node-quad, node-cut, node-leaf, node-other}
+use Rattle.search.proofs.Steps.{Ahead, row-there, row-ahead, child-ended, child-elsewhere, Level, node-quad, node-cut, node-leaf, node-other}
 use Rattle.search.proofs.Splits.{split-shut, parts-asked, split-tried, parts-ended, Part, part-asked, part-refused, rest-asked, rest-walked}
 use borrow.Fn.Kinds.{In}
 use borrow.Fn.PlainCycle.{Measures}
@@ -84,13 +88,13 @@ split-search-at t = at 2 split-search-kinds.ps μ-split-search split-search.Pre 
 
 -- what the functions that each member calls ask and give
 abbrev child-claims : ℕ → child-search-lts.Claims
-child-claims t = (begins-inside-reads.Asked, begins-inside-reads.Learnt, right-out-at-reads.Asked, right-out-at-reads.Learnt, bottom-out-at-reads.Asked, bottom-out-at-reads.Learnt, out-splits-reads.Asked, out-splits-reads.Learnt, below 2 node-search-kinds.ps μ-node-search node-search.Pre t, node-search.Post, inner-splits-reads.Asked, inner-splits-reads.Learnt)
+child-claims t = (begins-inside-reads.Asked, begins-inside-reads.Learnt, place-reads.Asked, place-reads.Learnt, refusal-reads.Asked, refusal-reads.Learnt, word-at-reads.Asked, word-at-reads.Learnt, right-out-at-reads.Asked, right-out-at-reads.Learnt, bottom-out-at-reads.Asked, bottom-out-at-reads.Learnt, out-splits-reads.Asked, out-splits-reads.Learnt, below 2 node-search-kinds.ps μ-node-search node-search.Pre t, node-search.Post, inner-splits-reads.Asked, inner-splits-reads.Learnt)
 
 abbrev cut-claims : ℕ → cut-search-lts.Claims
 cut-claims t = (below 2 split-search-kinds.ps μ-split-search split-search.Pre t, split-search.Post, child-answer-reads.Asked, child-answer-reads.Learnt, farther-reads.Asked, farther-reads.Learnt)
 
 abbrev node-claims : ℕ → node-search-lts.Claims
-node-claims t = (place-reads.Asked, place-reads.Learnt, refusal-reads.Asked, refusal-reads.Learnt, word-at-reads.Asked, word-at-reads.Learnt, qt-depth-reads.Asked, qt-depth-reads.Learnt, below 2 split-search-kinds.ps μ-split-search split-search.Pre t, split-search.Post, mtt-depth-reads.Asked, mtt-depth-reads.Learnt, below 2 cut-search-kinds.ps μ-cut-search cut-search.Pre t, cut-search.Post, further-reads.Asked, further-reads.Learnt)
+node-claims t = (place-reads.Asked, place-reads.Learnt, word-at-reads.Asked, word-at-reads.Learnt, qt-depth-reads.Asked, qt-depth-reads.Learnt, below 2 split-search-kinds.ps μ-split-search split-search.Pre t, split-search.Post, mtt-depth-reads.Asked, mtt-depth-reads.Learnt, below 2 cut-search-kinds.ps μ-cut-search cut-search.Pre t, cut-search.Post, further-reads.Asked, further-reads.Learnt, refusal-reads.Asked, refusal-reads.Learnt)
 
 abbrev parts-claims : ℕ → parts-search-lts.Claims
 parts-claims t = (parts-reads.Asked, parts-reads.Learnt, child-row-reads.Asked, child-row-reads.Learnt, left-to-reads.Asked, left-to-reads.Learnt, below 2 child-search-kinds.ps μ-child-search child-search.Pre t, child-search.Post, child-answer-reads.Asked, child-answer-reads.Learnt, below 2 parts-search-kinds.ps μ-parts-search parts-search.Pre t, parts-search.Post)
@@ -100,54 +104,99 @@ split-claims t = (allowed-reads.Asked, allowed-reads.Learnt, place-reads.Asked, 
 
 -- ---- a child
 
+-- where the next row is known, and where the node is out
+abbrev ChildWord : ℕ → Type 0
+ChildWord t = child-search-lts.After-word-at (child-claims t) (child-search-at t) child-search.Post
+
+abbrev ChildEdge : ℕ → Type 0
+ChildEdge t = child-search-lts.After-bottom-out-at (child-claims t) (child-search-at t) child-search.Post
+
+abbrev child-word : (t : ℕ) → ChildEdge t → ChildWord t
+child-word t bo = bo .before .before .before
+
+abbrev child-start : (t : ℕ) → ChildWord t → child-search-lts.Start (child-claims t) (child-search-at t) child-search.Post
+child-start t wo = wo .before .before .before .before .before .before
+
+child-begins : (t : ℕ) (wo : ChildWord t) → let a = child-start t wo .args in cornerInside (limitsIn (now (a .u))) (nodeIn (a .row)) ≡ true
+child-begins t wo = let el = wo .before .before .before in tested-not (el .before .begins-inside .ensures) (el .if1 .left)
+
 child-returns : (t : ℕ) → child-search-lts.Need-returns (child-claims t) (child-search-at t) child-search.Post
 child-returns t c =
     let be = c .before in
     let st = be .before .before in
     edge-gone (searchWay (now (st .args .rows))) refl (tested-not (be .begins-inside .ensures) (c .if1 .taken))
 
+child-returns-2 : (t : ℕ) → child-search-lts.Need-returns-2 (child-claims t) (child-search-at t) child-search.Post
+child-returns-2 t c =
+    let th = c .before in
+    let pl = th .before in
+    let el = pl .before in
+    child-ended (tested-not (el .before .begins-inside .ensures) (el .if1 .left)) (pl .place .ensures .0) (c .refusal .ensures) (th .if2 .taken)
+
+child-word-at-requires : (t : ℕ) → child-search-lts.Need-word-at-requires (child-claims t) (child-search-at t) child-search.Post
+child-word-at-requires t c κs =
+    let pl = c .before in
+    let st = pl .before .before .before .before in
+    row-there (st .pre .1 .0) (st .pre .1 .1) (pl .place .ensures .0) (c .if2 .left)
+
+child-returns-3 : (t : ℕ) → child-search-lts.Need-returns-3 (child-claims t) (child-search-at t) child-search.Post
+child-returns-3 t c =
+    let th = c .before in
+    let wo = th .before in
+    let el = wo .before in
+    let pl = el .before in
+    let st = child-start t wo in
+    child-elsewhere (child-begins t wo) (pl .place .ensures .0) (c .refusal2 .ensures) (row-ahead (st .pre .1 .0) (st .pre .1 .1) (pl .place .ensures .0) (el .if2 .left) (wo .word-at .ensures)) (th .if3 .taken)
+
+-- the row that is next is there for the node, too
+child-there : (t : ℕ) (wo : ChildWord t) → let a = child-start t wo .args in placeOf (a .c) < length (now (a .rows))
+child-there t wo =
+    let el = wo .before in
+    let e = el .before .place .ensures .0 in
+    let h = el .if2 .left in
+    omega arith
+
 child-node-search-requires : (t : ℕ) → child-search-lts.Need-node-search-requires (child-claims t) (child-search-at t) child-search.Post
 child-node-search-requires t c κs =
     let bo = c .before .before in
     let ro = bo .before in
-    let be = ro .before .before in
-    let st = be .before .before in
+    let wo = child-word t bo in
+    let st = child-start t wo in
     let m = st .pre .0 in (
       omega arith,
       (
-        known-asked (out-known (tested-not (be .begins-inside .ensures) (ro .before .if1 .left)) (tested-or (ro .right-out-at .ensures) (bo .bottom-out-at .ensures) (c .before .if2 .taken))
+        known-asked (out-known (child-begins t wo) (tested-or (ro .right-out-at .ensures) (bo .bottom-out-at .ensures) (c .before .if4 .taken))
             (out-splits-is (now (st .args .u)) (st .args .row) (st .args .depths) (ro .right-out-at .ensures) (bo .bottom-out-at .ensures) (c .out-splits .ensures))) (st .pre .1 .0),
         st .pre .1 .1,
+        child-there t wo,
       ),
     )
 
-child-returns-2 : (t : ℕ) → child-search-lts.Need-returns-2 (child-claims t) (child-search-at t) child-search.Post
-child-returns-2 t c =
+child-returns-4 : (t : ℕ) → child-search-lts.Need-returns-4 (child-claims t) (child-search-at t) child-search.Post
+child-returns-4 t c =
     let os = c .before in
     let bo = os .before .before in
     let ro = bo .before in
-    let be = ro .before .before in
-    let st = be .before .before in
-    known-walked (out-known (tested-not (be .begins-inside .ensures) (ro .before .if1 .left)) (tested-or (ro .right-out-at .ensures) (bo .bottom-out-at .ensures) (os .before .if2 .taken))
+    let wo = child-word t bo in
+    let st = child-start t wo in
+    known-walked (out-known (child-begins t wo) (tested-or (ro .right-out-at .ensures) (bo .bottom-out-at .ensures) (os .before .if4 .taken))
     (out-splits-is (now (st .args .u)) (st .args .row) (st .args .depths) (ro .right-out-at .ensures) (bo .bottom-out-at .ensures) (os .out-splits .ensures))) (c .node-search .ensures)
 
 child-node-search-requires-2 : (t : ℕ) → child-search-lts.Need-node-search-requires-2 (child-claims t) (child-search-at t) child-search.Post
 child-node-search-requires-2 t c κs =
     let bo = c .before .before in
     let ro = bo .before in
-    let be = ro .before .before in
-    let st = be .before .before in
+    let wo = child-word t bo in
+    let st = child-start t wo in
     let m = st .pre .0 in
-    (omega arith, (known-asked (in-known (tested-not (be .begins-inside .ensures) (ro .before .if1 .left)) (tested-or (ro .right-out-at .ensures) (bo .bottom-out-at .ensures) (c .before .if2 .left)) (c .inner-splits .ensures)) (st .pre .1 .0), st .pre .1 .1))
+    (omega arith, (known-asked (in-known (child-begins t wo) (tested-or (ro .right-out-at .ensures) (bo .bottom-out-at .ensures) (c .before .if4 .left)) (c .inner-splits .ensures)) (st .pre .1 .0), st .pre .1 .1, child-there t wo))
 
-child-returns-3 : (t : ℕ) → child-search-lts.Need-returns-3 (child-claims t) (child-search-at t) child-search.Post
-child-returns-3 t c =
+child-returns-5 : (t : ℕ) → child-search-lts.Need-returns-5 (child-claims t) (child-search-at t) child-search.Post
+child-returns-5 t c =
     let is = c .before in
     let bo = is .before .before in
     let ro = bo .before in
-    let be = ro .before .before in
-    let st = be .before .before in
-    known-walked (in-known (tested-not (be .begins-inside .ensures) (ro .before .if1 .left)) (tested-or (ro .right-out-at .ensures) (bo .bottom-out-at .ensures) (is .before .if2 .left)) (is .inner-splits .ensures)) (c .node-search2 .ensures)
+    known-walked (in-known (child-begins t (child-word t bo)) (tested-or (ro .right-out-at .ensures) (bo .bottom-out-at .ensures) (is .before .if4 .left)) (is .inner-splits .ensures)) (c .node-search2 .ensures)
 
 -- ---- a node
 
@@ -158,81 +207,76 @@ NodeWord t = node-search-lts.After-word-at (node-claims t) (node-search-at t) no
 abbrev NodeDepths : ℕ → Type 0
 NodeDepths t = node-search-lts.After-mtt-depth2 (node-claims t) (node-search-at t) node-search.Post
 
-node-ahead : (t : ℕ) (wo : NodeWord t) → let pl = wo .before .before in let a = pl .before .before .args in Ahead (now (a .rows)) (now (a .u)) (a .c) (a .row) (a .depths) (a .out) (a .splits) (pl .place .result) (wo .word-at .result)
-node-ahead t wo =
-    let el = wo .before in
-    let pl = el .before in
-    let st = pl .before .before in
-    record { asked = st .pre .1 .0; whole-rows = st .pre .1 .1; place = pl .place .ensures .0; there = el .if1 .left; word-is = wo .word-at .ensures }
-
 abbrev node-word : (t : ℕ) → NodeDepths t → NodeWord t
-node-word t mb = mb .before .before .before .before .before .before
+node-word t mb = mb .before .before .before .before .before
 
-node-level : (t : ℕ) (mb : NodeDepths t) → let wo = node-word t mb in Level (wo .before .before .before .before .args .row) (wo .word-at .result) (mb .before .mtt-depth .result) (mb .mtt-depth2 .result)
+abbrev node-start : (t : ℕ) → NodeWord t → node-search-lts.Start (node-claims t) (node-search-at t) node-search.Post
+node-start t wo = wo .before .before .before
+
+node-ahead : (t : ℕ) (wo : NodeWord t) → let a = node-start t wo .args in Ahead (now (a .rows)) (a .c) (wo .word-at .result)
+node-ahead t wo =
+    let pl = wo .before in
+    let st = node-start t wo in
+    let e = pl .place .ensures .0 in
+    let h = st .pre .1 .2 in
+    row-ahead (st .pre .1 .0) (st .pre .1 .1) e (omega arith) (wo .word-at .ensures)
+
+node-level : (t : ℕ) (mb : NodeDepths t) → let wo = node-word t mb in Level (node-start t wo .args .row) (wo .word-at .result) (mb .before .mtt-depth .result) (mb .mtt-depth2 .result)
 node-level t mb =
     let ma = mb .before in
     let ef = ma .before in
     let qb = ef .before in
     let a = qb .before .qt-depth .ensures .0 in
     let b = qb .qt-depth2 .ensures .0 in
-    let h = ef .if3 .left in
+    let h = ef .if1 .left in
     record { flat = omega arith; x-is = ma .mtt-depth .ensures .0; y-is = mb .mtt-depth2 .ensures .0 }
+
+node-word-at-requires : (t : ℕ) → node-search-lts.Need-word-at-requires (node-claims t) (node-search-at t) node-search.Post
+node-word-at-requires t c κs =
+    let st = c .before .before in
+    let e = c .place .ensures .0 in
+    let h = st .pre .1 .2 in
+    row-there (st .pre .1 .0) (st .pre .1 .1) e (omega arith)
+
+node-split-search-requires : (t : ℕ) → node-search-lts.Need-split-search-requires (node-claims t) (node-search-at t) node-search.Post
+node-split-search-requires t c κs =
+    let st = node-start t (c .before .before .before) in
+    let m = st .pre .0 in
+    (omega arith, (st .pre .1 .0, st .pre .1 .1, refl))
 
 node-returns : (t : ℕ) → node-search-lts.Need-returns (node-claims t) (node-search-at t) node-search.Post
 node-returns t c =
     let th = c .before in
-    let pl = th .before in
-    node-ended (pl .place .ensures .0) (th .if1 .taken) (c .refusal .ensures)
+    let qb = th .before in
+    let qa = qb .before in
+    node-quad (node-ahead t (qa .before)) (qa .qt-depth .ensures .0) (qb .qt-depth2 .ensures .0) (th .if1 .taken) (c .split-search .ensures)
 
-node-word-at-requires : (t : ℕ) → node-search-lts.Need-word-at-requires (node-claims t) (node-search-at t) node-search.Post
-node-word-at-requires t c κs =
-    let pl = c .before in
-    let st = pl .before .before in
-    row-there (st .pre .1 .0) (pl .place .ensures .0) (st .pre .1 .1) (c .if1 .left)
+node-cut-search-requires : (t : ℕ) → node-search-lts.Need-cut-search-requires (node-claims t) (node-search-at t) node-search.Post
+node-cut-search-requires t c κs =
+    let st = node-start t (node-word t (c .before)) in
+    let m = st .pre .0 in
+    (omega arith, (st .pre .1 .0, st .pre .1 .1))
 
 node-returns-2 : (t : ℕ) → node-search-lts.Need-returns-2 (node-claims t) (node-search-at t) node-search.Post
 node-returns-2 t c =
     let th = c .before in
-    node-elsewhere (node-ahead t (th .before)) (th .if2 .taken) (c .refusal2 .ensures)
-
-node-split-search-requires : (t : ℕ) → node-search-lts.Need-split-search-requires (node-claims t) (node-search-at t) node-search.Post
-node-split-search-requires t c κs =
-    let st = c .before .before .before .before .before .before .before .before in
-    let m = st .pre .0 in
-    (omega arith, (st .pre .1 .0, st .pre .1 .1, refl))
+    let mb = th .before in
+    node-cut (node-ahead t (node-word t mb)) (node-level t mb) (th .if2 .taken) (c .cut-search .ensures)
 
 node-returns-3 : (t : ℕ) → node-search-lts.Need-returns-3 (node-claims t) (node-search-at t) node-search.Post
 node-returns-3 t c =
     let th = c .before in
-    let qb = th .before in
-    let qa = qb .before in
-    node-quad (node-ahead t (qa .before .before)) (qa .qt-depth .ensures .0) (qb .qt-depth2 .ensures .0) (th .if3 .taken) (c .split-search .ensures)
-
-node-cut-search-requires : (t : ℕ) → node-search-lts.Need-cut-search-requires (node-claims t) (node-search-at t) node-search.Post
-node-cut-search-requires t c κs =
-    let st = c .before .before .before .before .before .before .before .before .before .before .before in
-    let m = st .pre .0 in
-    (omega arith, (st .pre .1 .0, st .pre .1 .1))
+    let eq = th .before in
+    let mb = eq .before in
+    node-leaf (node-ahead t (node-word t mb)) (node-level t mb) (eq .if2 .left) (th .if3 .taken) (c .further .ensures)
 
 node-returns-4 : (t : ℕ) → node-search-lts.Need-returns-4 (node-claims t) (node-search-at t) node-search.Post
 node-returns-4 t c =
     let th = c .before in
-    let mb = th .before in
-    node-cut (node-ahead t (node-word t mb)) (node-level t mb) (th .if4 .taken) (c .cut-search .ensures)
-
-node-returns-5 : (t : ℕ) → node-search-lts.Need-returns-5 (node-claims t) (node-search-at t) node-search.Post
-node-returns-5 t c =
-    let th = c .before in
     let eq = th .before in
     let mb = eq .before in
-    node-leaf (node-ahead t (node-word t mb)) (node-level t mb) (eq .if4 .left) (th .if5 .taken) (c .further .ensures)
-
-node-returns-6 : (t : ℕ) → node-search-lts.Need-returns-6 (node-claims t) (node-search-at t) node-search.Post
-node-returns-6 t c =
-    let th = c .before in
-    let eq = th .before in
-    let mb = eq .before in
-    node-other (node-ahead t (node-word t mb)) (node-level t mb) (eq .if4 .left) (th .if5 .left) (c .refusal3 .ensures)
+    let wo = node-word t mb in
+    node-other (node-ahead t wo) (node-level t mb) (eq .if2 .left) (th .if3 .left) (wo .before .place .ensures .0) (c .refusal .ensures)
 
 -- ---- the cuts of a node, one after the other
 
@@ -418,10 +462,10 @@ pub +child-search+cut-search+node-search+parts-search+split-search-spec : {M : T
 +child-search+cut-search+node-search+parts-search+split-search-spec =
     close
     μ-child-search μ-cut-search μ-node-search μ-parts-search μ-split-search
-    (λ t. child-search-lts.spec (child-claims t) (child-search-at t) child-search.Post (λ c κs. search needs) (child-returns t) (λ c κs. search needs) (λ c κs. search needs) (λ c κs. search needs) (child-node-search-requires t) (child-returns-2 t) (λ c κs. search needs) (child-node-search-requires-2 t) (child-returns-3 t))
+    (λ t. child-search-lts.spec (child-claims t) (child-search-at t) child-search.Post (λ c κs. search needs) (child-returns t) (λ c κs. search needs) (λ c κs. search needs) (child-returns-2 t) (child-word-at-requires t) (λ c κs. search needs) (child-returns-3 t) (λ c κs. search needs) (λ c κs. search needs) (λ c κs. search needs) (child-node-search-requires t) (child-returns-4 t)
+    (λ c κs. search needs) (child-node-search-requires-2 t) (child-returns-5 t))
     (λ t. cut-search-lts.spec (cut-claims t) (cut-search-at t) cut-search.Post (cut-split-search-requires t) (λ c κs. search needs) (λ c. search needs) (λ c. search needs) (cut-returns t) (cut-split-search-requires-2 t) (λ c κs. search needs) (λ c. search needs) (λ c. search needs) (cut-returns-2 t)
     (cut-split-search-requires-3 t) (λ c κs. search needs) (λ c. search needs) (λ c. search needs) (cut-returns-3 t) (cut-split-search-requires-4 t) (λ c κs. search needs) (λ c. search needs) (λ c. search needs) (cut-returns-4 t) (λ c κs. search needs) (λ c κs. search needs) (λ c κs. search needs) (cut-returns-5 t))
-    (λ t. node-search-lts.spec (node-claims t) (node-search-at t) node-search.Post (λ c κs. search needs) (λ c κs. search needs) (node-returns t) (node-word-at-requires t) (λ c κs. search needs) (node-returns-2 t) (λ c κs. search needs) (λ c κs. search needs) (node-split-search-requires t) (node-returns-3 t)
-    (λ c κs. search needs) (λ c κs. search needs) (node-cut-search-requires t) (node-returns-4 t) (λ c κs. search needs) (λ c κs. search needs) (node-returns-5 t) (node-returns-6 t))
+    (λ t. node-search-lts.spec (node-claims t) (node-search-at t) node-search.Post (λ c κs. search needs) (node-word-at-requires t) (λ c κs. search needs) (λ c κs. search needs) (node-split-search-requires t) (node-returns t) (λ c κs. search needs) (λ c κs. search needs) (node-cut-search-requires t) (node-returns-2 t) (λ c κs. search needs) (λ c κs. search needs) (node-returns-3 t) (node-returns-4 t))
     (λ t. parts-search-lts.spec (parts-claims t) (parts-search-at t) parts-search.Post (λ c κs. search needs) (parts-returns t) (λ c κs. search needs) (λ c κs. search needs) (parts-child-search-requires t) (λ c κs. search needs) (λ c. search needs) (λ c. search needs) (parts-returns-2 t) (λ c. search needs) (parts-parts-search-requires t) (parts-returns-3 t))
     λ t. split-search-lts.spec (split-claims t) (split-search-at t) split-search.Post (λ c κs. search needs) (λ c κs. search needs) (λ c κs. search needs) (split-returns t) (split-parts-search-requires t) (split-returns-2 t)
