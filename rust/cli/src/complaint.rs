@@ -17,7 +17,8 @@ use crate::text::Reason;
 ///     Complaint::Unit { lines: (2, 5), row_line: None, address: 0, units: 1, refusal };
 /// assert_eq!(
 ///     complaint.to_string(),
-///     "lines 2 to 5: unit 0: refusal 27: more rows are needed, there are only 3 (the last is line 5)",
+///     "lines 2 to 5: unit 0: refusal 27: the table ends too early, more rows than 3 are needed \
+///      (the last is line 5)",
 /// );
 /// ```
 #[derive(Clone, Copy, Debug, PartialEq, Eq)]

@@ -102,7 +102,7 @@ impl fmt::Display for Refusal {
             17 => write!(f, "the flag buffer is too short, {place} flags are needed"),
             21 => write!(f, "another unit is due, unit {place}"),
             23 => write!(f, "the page is too short, {place} bytes are needed"),
-            27 => write!(f, "more rows are needed, there are only {place}"),
+            27 => write!(f, "the table ends too early, more rows than {place} are needed"),
             28 => {
                 write!(f, "too many rows, the first that is too many is row {place}")?;
                 f.write_str(", counted from 0")

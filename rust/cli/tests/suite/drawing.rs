@@ -73,7 +73,7 @@ fn broken_tables_are_left_out_and_said() {
                 1 64 0 64 64 0 0\n# again\n1 64 0 64 64 0 0\n0 0 0 64 64 0 0\n";
     let ran = run_with(&["draw", "-"], text.as_bytes());
     let said = "colwythar: standard input: lines 2 to 4: unit 0: refusal 27: \
-                more rows are needed, there are only 2 (the last is line 4)
+                the table ends too early, more rows than 2 are needed (the last is line 4)
 colwythar: standard input: lines 5 to 7: unit 1: refusal 28: \
                 too many rows, the first that is too many is row 1, counted from 0 (it is line 7)\n";
     assert_eq!((ran.status, ran.err.as_str()), (1, said));

@@ -39,7 +39,7 @@ fn sentences_that_say_a_limit_or_a_place() {
         (16, 2, "refusal 16: row 2, counted from 0, is the first that fits no tree of this unit"),
         (21, 0, "refusal 21: another unit is due, unit 0"),
         (23, 132, "refusal 23: the page is too short, 132 bytes are needed"),
-        (27, 3, "refusal 27: more rows are needed, there are only 3"),
+        (27, 3, "refusal 27: the table ends too early, more rows than 3 are needed"),
         (28, 4, "refusal 28: too many rows, the first that is too many is row 4, counted from 0"),
     ];
     for (number, place, sentence) in sentences {
