@@ -1,15 +1,14 @@
 -- What a walk of a whole tree answers, and the place that is found where it is refused, are the end of the test.
 use Prim.Native.Nat.{ℕ, zero, suc, _-_, _*_, _/_, _%_, _≤_, _<_}
-use mathlib.Core.Path.{_≡_, refl, ap, _∙_}
+use mathlib.Core.Path.{_≡_, refl, sym, ap, _∙_}
 use mathlib.Core.List.{List, [], _∷_}
 use native.Mathlib.Omega.{arith}
 use lib.ListN.{length}
-use borrow.Author.Tests.{lt-ltb, le-ltb, eq-eqb, ne-eqb}
+use borrow.Author.Tests.{lt-ltb, le-ltb}
 use Rattle.tree.specs.Rows.{Row}
 use Rattle.tree.specs.Run.{End, goes, stops}
 use Rattle.tree.specs.Search.{Fit, whole, stuck}
 use Rattle.laws.proofs.Tables.{rows-long}
-use Rattle.unit.specs.declared.Answer.the-variants.{Refused}
 use Rattle.unit.specs.Answers.{endAnswer}
 use Rattle.unit.specs.Writer.{fitEnd}
 use Rattle.unit.proofs.TreeTurning.{backEnd}
@@ -17,7 +16,7 @@ use Rattle.nodes.specs.State.{placeOf, givenOf}
 use Rattle.walks.specs.Walks.{Says}
 use Rattle.marks.specs.Table.{Left}
 use Rattle.back.specs.Walking.{backWay}
-use Rattle.writer.specs.Delivery.{walkEnd, stuckEnd}
+use Rattle.writer.specs.Delivery.{walkEnd}
 
 module _ (bytes : List ℕ) (answer count : ℕ) (f : Fit) where
   -- a walk that takes the rows of a tree: rows are left where its place is before the end
@@ -43,8 +42,20 @@ module _ (bytes : List ℕ) (answer count : ℕ) (f : Fit) where
   walk-stops few h (goes left) s = let g = s .0 in absurd (omega arith)
   walk-stops few h (stops k p) s = (k, p, refl)
 
--- the place that is found for rows that are stuck
-pub stuck-is : (bytes : List ℕ) (count leading left : ℕ) → left ≤ length bytes / 8 → leading ≡ length bytes / 8 - left → stuckEnd leading bytes ≡ endAnswer count (fitEnd (length bytes / 8) (stuck left))
-unfolding stuckEnd fitEnd
-stuck-is bytes count leading zero h e = rw (eq-eqb leading (length bytes / 8) (omega arith)) (ap (Refused 27) (omega arith))
-stuck-is bytes count leading (suc left) h e = rw (ne-eqb leading (length bytes / 8) (λ z. omega arith)) (ap (Refused 16) e)
+-- the refusal of rows that are stuck, of which so many lead
+module _ (count leading left : ℕ) (e : leading ≡ count - left) where
+  pub all-lead : leading ≡ count → left ≤ count → fitEnd count (stuck left) ≡ stops 27 leading
+  unfolding fitEnd
+  all-lead h w = go left (omega arith)
+    where
+      go : (left : ℕ) → left ≡ 0 → fitEnd count (stuck left) ≡ stops 27 leading
+      go zero z = ap (stops 27) (sym h)
+      go (suc left) z = absurd (omega arith)
+
+  pub some-lead : ¬ (leading ≡ count) → fitEnd count (stuck left) ≡ stops 16 leading
+  unfolding fitEnd
+  some-lead h = go left e
+    where
+      go : (left : ℕ) → leading ≡ count - left → fitEnd count (stuck left) ≡ stops 16 leading
+      go zero z = absurd (h (omega arith))
+      go (suc left) z = ap (stops 16) (sym z)

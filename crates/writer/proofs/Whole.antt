@@ -29,8 +29,8 @@ use Rattle.nodes.specs.State.{givenOf}
 use Rattle.walks.specs.Rooted.{Rooted}
 use Rattle.walks.specs.Walks.{Says, Done}
 use Rattle.back.specs.Walking.{backWay}
-use Rattle.writer.specs.Delivery.{walkEnd, stuckEnd, deliverFlags, InScratch}
-use Rattle.writer.proofs.Delivery.{walk-goes, walk-stops, stuck-is}
+use Rattle.writer.specs.Delivery.{walkEnd, StuckEnd, deliverFlags, InScratch}
+use Rattle.writer.proofs.Delivery.{walk-goes, walk-stops, all-lead, some-lead}
 
 module _ (l : Limits) (root : Node) (bytes : List ℕ) where
   -- 15
@@ -68,6 +68,23 @@ module _ (l : Limits) (root : Node) (bytes : List ℕ) where
         let c = kept-count e in
         let f : take n scratch ≡ tested .given = rw (c .0) at (kept .flags) in
         rw (c .2, c .0) (rw f at m)
+
+-- ---- the end of rows that no walk takes, by how many of them lead
+
+module _ {l : Limits} {root : Node} (r : Rooted (luma l) root) (bytes : List ℕ) {leading : ℕ} (leads : (left : ℕ) → fitNode (luma l) root (rowsIn bytes) ≡ stuck left → leading ≡ length bytes / 8 - left) where
+  pub leads-all : leading ≡ length bytes / 8 → StuckEnd (luma l) root bytes (Refused 27 leading)
+  leads-all h = record {
+    number = 27;
+    place = leading;
+    refused = refl;
+    ends = λ left is.
+        let w = search-is-tree (r .proper) (r .placed .good) (r .here) (r .placed .sum) .within (rowsIn bytes) left is in
+        let n = rows-long (length bytes / 8) bytes 0 in
+        all-lead (length bytes / 8) leading left (leads left is) h (omega arith);
+  }
+
+  pub leads-some : ¬ (leading ≡ length bytes / 8) → StuckEnd (luma l) root bytes (Refused 16 leading)
+  leads-some h = record { number = 16; place = leading; refused = refl; ends = λ left is. some-lead (length bytes / 8) leading left (leads left is) h }
 
 -- ---- what the walk of the root answers, and what the search finds, are the test's end, and the scratch table has its flags
 
@@ -112,16 +129,12 @@ module _ {l : Limits} {root : Node} (r : Rooted (luma l) root) (bytes : List ℕ
   pub root-walked : answer < 9223372036854775808 → {said : Answer} → said ≡ walkEnd answer bytes → InScratch (testRows (luma l) root bytes) said z
   root-walked h e = kept (e ∙ walk-goes bytes answer (length (run .given)) found whole-rows h (run .end) says)
 
-  -- it is refused, and the search finds how many rows lead
-  pub root-refused : 9223372036854775808 ≤ answer → {leading : ℕ} → ((left : ℕ) → found ≡ stuck left → leading ≡ length bytes / 8 - left) → {said : Answer} → said ≡ stuckEnd leading bytes
-      → InScratch (testRows (luma l) root bytes) said z
-  root-refused h {leading} leads {said} e =
+  -- it is refused, and the search finds the end
+  pub root-refused : 9223372036854775808 ≤ answer → {said : Answer} → StuckEnd (luma l) root bytes said → InScratch (testRows (luma l) root bytes) said z
+  root-refused h {said} end =
       let s = walk-stops bytes answer (length (run .given)) found few-flags h (run .end) says in
-      kept (subst (λ (end : End (List Row)). said ≡ endAnswer (length (run .given)) (backEnd (length bytes / 8) found end)) (sym (s .2)) (go (s .2) found refl))
+      kept (end .refused ∙ sym (ap (λ (e : End (List Row)). endAnswer (length (run .given)) (backEnd (length bytes / 8) found e)) (s .2) ∙ ap (endAnswer (length (run .given))) (go (s .2) found refl)))
     where
-      go : {number place : ℕ} → run .end ≡ stops number place → (f : Fit) → found ≡ f → said ≡ endAnswer (length (run .given)) (fitEnd (length bytes / 8) f)
+      go : {number place : ℕ} → run .end ≡ stops number place → (f : Fit) → found ≡ f → fitEnd (length bytes / 8) found ≡ stops (end .number) (end .place)
       go stopped (whole rest) is = absurd (stops-stuck turning searching (rowsIn bytes) stopped rest is)
-      go stopped (stuck left) is =
-          let w = searching .within (rowsIn bytes) left is in
-          let n = all-rows in
-          e ∙ stuck-is bytes (length (run .given)) leading left (omega arith) (leads left is)
+      go stopped (stuck left) is = ap (fitEnd (length bytes / 8)) is ∙ end .ends left is

@@ -8,13 +8,16 @@ use lib.Dec.{ltb, eqb}
 use Rattle.tree.specs.declared.Limits.{Limits}
 use Rattle.tree.specs.declared.Node.{Node}
 use Rattle.tree.specs.declared.Decision.the-variants.{Leaf}
+use Rattle.tree.specs.Kind.{Kind}
 use Rattle.tree.specs.Splits.{inside, rightsIn}
 use Rattle.tree.specs.Flags.{flagsFor}
-use Rattle.tree.specs.Rows.{Row, rowOf, rowAt}
-use Rattle.tree.specs.Run.{Run}
+use Rattle.tree.specs.Rows.{Row, rowOf, rowAt, rowsIn}
+use Rattle.tree.specs.Run.{Run, stops}
 use Rattle.tree.specs.Back.{sameRow}
+use Rattle.tree.specs.Search.{stuck, fitNode}
 use Rattle.unit.specs.declared.Answer.{Answer}
 use Rattle.unit.specs.declared.Answer.the-variants.{Accepted, Refused}
+use Rattle.unit.specs.Writer.{fitEnd}
 use Rattle.unit.specs.Answers.{Outcome, refused, deliver, answerOf}
 use Rattle.nodes.specs.State.{placeOf, givenOf}
 
@@ -34,9 +37,12 @@ deliverLeaf splits buffer = deliver 17 (length (leafFlags splits)) (leafFlags sp
 unfoldable pub walkEnd : ℕ → List ℕ → Answer
 walkEnd end rows = cond (ltb (placeOf end) (length rows)) (Refused 28 (placeOf end / 8)) (Accepted (givenOf end))
 
--- the end of rows that no walk takes, of which so many lead: 27 where these are all, else 16
-unfoldable pub stuckEnd : ℕ → List ℕ → Answer
-stuckEnd leading rows = cond (eqb leading (length rows / 8)) (Refused 27 leading) (Refused 16 leading)
+-- the end of rows that no walk takes: a refusal, and that of rows that are stuck
+pub record StuckEnd (k : Kind) (root : Node) (bytes : List ℕ) (said : Answer) : Type 0 where
+  pub number : ℕ
+  pub place : ℕ
+  pub refused : said ≡ Refused number place
+  pub ends : (left : ℕ) → fitNode k root (rowsIn bytes) ≡ stuck left → fitEnd (length bytes / 8) (stuck left) ≡ stops number place
 
 -- the first flags of a scratch table into a buffer; 17 where it is too short
 unfoldable pub deliverFlags : ℕ → List ℕ → List ℕ → Outcome

@@ -3,6 +3,7 @@
 mod deliver;
 mod test;
 
+use nodes::Child;
 use settings::Located;
 use settings::Settings;
 pub use test::test_unit;
@@ -23,7 +24,11 @@ fn write_all(l: Limits, root: Node, rows: &[u8], flags: &mut [u8]) -> Answer
     ensures { λ r. ⌜ Meets (writeRows (luma l) root (now (rows .entry)) (now (flags .entry))) r (now (flags .exit)) ⌝ }
 {
     let mut scratch = [0u8; 2048];
-    match test::test_all(l, root, rows, &mut scratch) {
+    let answer = test::walk_all(l, root, rows, &mut scratch);
+    let Child::Walked(end) = nodes::child_answer(answer) else {
+        return test::stuck_end(l, root, rows);
+    };
+    match test::walk_end(end, rows) {
         Answer::Refused(number, place) => Answer::Refused(number, place),
         Answer::Accepted(n) => deliver::all_flags(n, &scratch, flags),
     }

@@ -17,7 +17,11 @@ ghost use Rattle.tree.specs.Splits.{rightsOf, openSplits};
 ghost use Rattle.unit.specs.Answers.{answerOf};
 ghost use Rattle.unit.specs.Writer.{testRows, testUnit};
 ghost use Rattle.walks.specs.Rooted.{Rooted};
-ghost use Rattle.writer.specs.Delivery.{leafAlone, leafFlags, walkEnd, stuckEnd, InScratch};
+ghost use Rattle.tree.specs.Rows.{rowsIn};
+ghost use Rattle.tree.specs.Back.{backNode};
+ghost use Rattle.walks.specs.Walks.{Done};
+ghost use Rattle.back.specs.Walking.{backWay};
+ghost use Rattle.writer.specs.Delivery.{leafAlone, leafFlags, walkEnd, StuckEnd};
 
 // Whether the only row is the root's own, and the root lies inside the picture: then it is a leaf.
 pub(crate) fn is_leaf(l: Limits, root: Node, rows: &[u8]) -> bool
@@ -53,8 +57,19 @@ fn leaf_count(splits: u32) -> usize
     if some_open(splits) { 1 } else { 0 }
 }
 
+// The walk of whole rows, from the numbers of a root, into a scratch table.
+pub(crate) fn walk_all(l: Limits, root: Node, rows: &[u8], scratch: &mut Scratch) -> u64
+    requires { ⌜ Rooted (luma l) root × (length (now rows) % 8 ≡ 0) × (length (now scratch) ≡ 2048) ⌝ }
+    ensures { λ r. ⌜ Done (backWay (now (rows .entry))) (backNode (luma l) root (rowsIn (now (rows .entry)))) 0 (now (scratch .entry)) r (now (scratch .exit)) ⌝ }
+{
+    let u = nodes::luma_table(l);
+    let splits = splits::open_splits(l, root);
+    let row = blocks::row_word(root);
+    back::tree_back(&u, rows, scratch, row, splits::out(l, root), splits)
+}
+
 // The end of a walk that takes the rows of a tree: 28 where rows are left, or the number of their flags.
-fn walk_end(end: u64, rows: &[u8]) -> Answer
+pub(crate) fn walk_end(end: u64, rows: &[u8]) -> Answer
     ensures { λ r. ⌜ r ≡ walkEnd end (now (rows .entry)) ⌝ }
 {
     let at = nodes::place(end);
@@ -64,31 +79,20 @@ fn walk_end(end: u64, rows: &[u8]) -> Answer
     Answer::Accepted(nodes::count(end))
 }
 
-// The end of rows that no walk takes, of which so many lead: 27 where these are all, else 16.
-fn stuck_end(leading: usize, rows: &[u8]) -> Answer
-    ensures { λ r. ⌜ r ≡ stuckEnd leading (now (rows .entry)) ⌝ }
-{
-    if leading == rows.len() / 8 {
-        return Answer::Refused(27, leading);
-    }
-    Answer::Refused(16, leading)
-}
-
-// The test of whole rows by a walk and, where that is refused, by a search for the place: 27, 28 or 16, or the number of
-// their flags, which the scratch table then begins with.
-pub(crate) fn test_all(l: Limits, root: Node, rows: &[u8], scratch: &mut Scratch) -> Answer
-    requires { ⌜ Rooted (luma l) root × (length (now rows) % 8 ≡ 0) × (length (now scratch) ≡ 2048) ⌝ }
-    ensures { λ r. ⌜ InScratch (testRows (luma l) root (now (rows .entry))) r (now (scratch .exit)) ⌝ }
+// The end of whole rows that no walk takes: 27 where all of them lead, else 16, at the place that a search finds. Two
+// functions call it, so that it stays out of the walk's, with the walk's tables off the stack.
+pub(crate) fn stuck_end(l: Limits, root: Node, rows: &[u8]) -> Answer
+    requires { ⌜ Rooted (luma l) root × (length (now rows) % 8 ≡ 0) ⌝ }
+    ensures { λ r. ⌜ StuckEnd (luma l) root (now (rows .entry)) r ⌝ }
 {
     let u = nodes::luma_table(l);
     let splits = splits::open_splits(l, root);
     let row = blocks::row_word(root);
-    let out = splits::out(l, root);
-    let answer = back::tree_back(&u, rows, scratch, row, out, splits);
-    let Child::Walked(end) = nodes::child_answer(answer) else {
-        return stuck_end(search::leading_rows(&u, rows, row, out, splits), rows);
-    };
-    walk_end(end, rows)
+    let leading = search::leading_rows(&u, rows, row, splits::out(l, root), splits);
+    if leading == rows.len() / 8 {
+        return Answer::Refused(27, leading);
+    }
+    Answer::Refused(16, leading)
 }
 
 // The test of a table, refusals 15, 27, 28 and 16; a root that is a leaf needs no walk.
@@ -103,7 +107,10 @@ fn test_rows(l: Limits, root: Node, rows: &[u8]) -> Answer
         return Answer::Accepted(leaf_count(leaf_splits(l, root)));
     }
     let mut scratch = [0u8; 2048];
-    test_all(l, root, rows, &mut scratch)
+    let Child::Walked(end) = nodes::child_answer(walk_all(l, root, rows, &mut scratch)) else {
+        return stuck_end(l, root, rows);
+    };
+    walk_end(end, rows)
 }
 
 // Tests the rows of the unit at an address: answers the number of the flags that give them, or a refusal of the way back
