@@ -97,27 +97,27 @@ pub(crate) fn cut_search(
     requires { ⌜ Asked (searchWay (now rows)) (Known out splits) (now u) c (word row depths ∷ []) × (length (now rows) % 8 ≡ 0) ⌝ }
     ensures { λ r. ⌜ Tried (now (rows .entry)) out splits (now (u .entry)) c (word row depths) cuts r ⌝ }
 {
-    let binary = Decision::Binary(Direction::Horizontal);
+    let bh = Decision::Binary(Direction::Horizontal);
     let rows0 = rows;
-    let first = split_search(u, rows0, c, row, depths, out, splits, binary);
+    let first = split_search(u, rows0, c, row, depths, out, splits, bh);
     let Child::Refused(_) = child_answer(first) else {
         return first;
     };
-    let upright = Decision::Binary(Direction::Vertical);
+    let bv = Decision::Binary(Direction::Vertical);
     let rows1 = rows;
-    let second = split_search(u, rows1, c, row, depths, out, splits, upright);
+    let second = split_search(u, rows1, c, row, depths, out, splits, bv);
     let Child::Refused(_) = child_answer(second) else {
         return second;
     };
-    let ternary = Decision::Ternary(Direction::Horizontal);
+    let th = Decision::Ternary(Direction::Horizontal);
     let rows2 = rows;
-    let third = split_search(u, rows2, c, row, depths, out, splits, ternary);
+    let third = split_search(u, rows2, c, row, depths, out, splits, th);
     let Child::Refused(_) = child_answer(third) else {
         return third;
     };
-    let last = Decision::Ternary(Direction::Vertical);
+    let tv = Decision::Ternary(Direction::Vertical);
     let rows3 = rows;
-    let fourth = split_search(u, rows3, c, row, depths, out, splits, last);
+    let fourth = split_search(u, rows3, c, row, depths, out, splits, tv);
     let Child::Refused(_) = child_answer(fourth) else {
         return fourth;
     };

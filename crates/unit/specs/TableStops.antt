@@ -21,6 +21,7 @@ use Rattle.unit.specs.Exactly.{noTreeNumbers, AcceptedOr}
 
 -- the answer for rows, by the coding trees of a root; what is delivered of a tree's rows is accepted, or refused with one of these numbers
 pub record TableAnswer (k : Kind) (root : Node) (rows : List Row) (delivery : List ℕ) (answer : Answer) : Type 0 where
+  -- rows of a tree, and no others, pass the test
   pub delivered : AcceptedOr delivery answer ↔ HasRows k root rows
   -- "27 when all rows are the beginning of some tree's longer table, its place the row count"
   pub early : (p : ℕ) → (answer ≡ Refused 27 p) ↔ (GoesOn k root rows × (p ≡ length rows))
@@ -30,6 +31,7 @@ pub record TableAnswer (k : Kind) (root : Node) (rows : List Row) (delivery : Li
   pub leaves : (p : ℕ) → (answer ≡ Refused 16 p) ↔ LeavesAt k root rows p
   -- "16 remains for all other tables without a tree"
   pub others : ((p : ℕ) × (answer ≡ Refused 16 p)) ↔ ((¬ HasRows k root rows) × (¬ GoesOn k root rows) × (¬ GoesPast k root rows))
+  -- there is no other answer
   pub numbers : AcceptedOr (noTreeNumbers ++ delivery) answer
 
 abbrev pub TableStops : Type 0
