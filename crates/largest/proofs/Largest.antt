@@ -12,7 +12,7 @@ use borrow.Author.Tests.{eqb-true}
 use Rattle.sides.proofs.Bools.{clash, and-left, and-right}
 use Rattle.settings.specs.declared.Settings.{Settings}
 use Rattle.settings.specs.Checks.{settingsRefusal}
-use Rattle.settings.specs.Units.{unitsOver, unitCount, unitRefusal, squareAt}
+use Rattle.settings.specs.Units.{unitsOver, countIn, refusalAt, squareIn, locatedBy}
 use Rattle.tree.specs.Splits.{binaryClosed, binaryOpen, ternaryOpen, rightsOf}
 use Rattle.tree.specs.Flags.{flagAt, afterBinary, afterVertical, afterQuad, afterSplit, decide}
 use Rattle.tree.specs.Children.{shares, childQt, childMtt, childOffset, child, childrenFrom, children, cornerInside}
@@ -22,7 +22,7 @@ use Rattle.tree.specs.Reading.{enter, walk}
 use Rattle.unit.specs.declared.Answer.{Answer}
 use Rattle.unit.specs.declared.Answer.the-variants.{Accepted, Refused}
 use Rattle.unit.specs.Answers.{deliver, finishEnd}
-use Rattle.unit.specs.Reader.{noneAfter, rowsFrom, readTree, readUnit}
+use Rattle.unit.specs.Reader.{noneAfter, rowsFrom, readTree, readLocated, readUnit}
 use Rattle.unit.specs.Cases.{settings}
 use Rattle.largest.specs.Largest.{Reads, halved, withQuad, Largest}
 
@@ -63,7 +63,7 @@ abbrev reads : ℕ → Bool
 reads more = accepts (2 + more) (answered (2 + more)) && eqb (length (rowFlags (2 + more))) (4 * (2 + more) - 2)
 
 reads-test : forBelow 63 reads ≡ true
-unfolding trailingZeros ones onesIn settingsRefusal unitsOver unitCount unitRefusal squareAt binaryClosed binaryOpen ternaryOpen rightsOf flagAt afterBinary afterVertical afterQuad afterSplit decide shares childQt childMtt childOffset child childrenFrom children cornerInside rowOf ownRows rowBytes tableBytes before goOn overAll enter walk deliver finishEnd noneAfter rowsFrom readTree readUnit halved
+unfolding trailingZeros ones onesIn settingsRefusal unitsOver countIn refusalAt squareIn locatedBy binaryClosed binaryOpen ternaryOpen rightsOf flagAt afterBinary afterVertical afterQuad afterSplit decide shares childQt childMtt childOffset child childrenFrom children cornerInside rowOf ownRows rowBytes tableBytes before goOn overAll enter walk deliver finishEnd noneAfter rowsFrom readTree readLocated halved
 reads-test = refl
 
 rows-read : (rows : ℕ) → 2 ≤ rows → rows ≤ 64 → Reads unit64 (rowFlags rows) rows (4 * rows - 2)
@@ -77,7 +77,7 @@ rows-read rows least most =
     })
 
 pub largest : Largest
-unfolding trailingZeros ones onesIn settingsRefusal unitsOver unitCount unitRefusal squareAt binaryClosed binaryOpen ternaryOpen rightsOf flagAt afterBinary afterVertical afterQuad afterSplit decide shares childQt childMtt childOffset child childrenFrom children cornerInside rowOf ownRows rowBytes tableBytes before goOn overAll enter walk deliver finishEnd noneAfter rowsFrom readTree readUnit halved
+unfolding trailingZeros ones onesIn settingsRefusal unitsOver countIn refusalAt squareIn locatedBy binaryClosed binaryOpen ternaryOpen rightsOf flagAt afterBinary afterVertical afterQuad afterSplit decide shares childQt childMtt childOffset child childrenFrom children cornerInside rowOf ownRows rowBytes tableBytes before goOn overAll enter walk deliver finishEnd noneAfter rowsFrom readTree readLocated halved
 largest = record {
   one-row = record { accepted = refl; many = refl };
   rows = rows-read;

@@ -6,8 +6,10 @@ use native.Mathlib.Omega.{arith}
 use lib.ListN.{length, drop}
 use borrow.Author.Tests.{lt-ltb, le-ltb}
 use Rattle.settings.specs.declared.Settings.{Settings}
-use Rattle.settings.specs.Units.{unitRefusal}
-use Rattle.settings.proofs.Grid.{count-most, unit-taken}
+use Rattle.settings.specs.Checks.{settingsRefusal}
+use Rattle.settings.specs.Units.{unitCount, unitRefusal}
+use Rattle.settings.proofs.Passed.{unit-side, passed}
+use Rattle.settings.proofs.Grid.{count-of-32, gridded, unit-taken}
 use Rattle.tree.specs.declared.Direction.the-variants.{Horizontal, Vertical}
 use Rattle.tree.specs.Rows.{Row, rowsIn}
 use Rattle.tree.specs.Run.{goes, stops}
@@ -21,10 +23,12 @@ use Rattle.laws.proofs.Tables.{rows-long}
 use Rattle.unit.specs.declared.Answer.{Answer}
 use Rattle.unit.specs.declared.Answer.the-variants.{Accepted, Refused}
 use Rattle.unit.specs.Answers.{Meets, refused, deliver, finishEnd, answerOf}
+use Rattle.unit.specs.Luma.{unitsOf}
 use Rattle.unit.specs.Writer.{testUnit}
 use Rattle.unit.specs.Exactly.{UnitTree}
 use Rattle.unit.proofs.Accepts.{answer-stops, answer-goes}
-use Rattle.unit.proofs.Roots.{root-of}
+use Rattle.unit.proofs.Sound.{root-of}
+use Rattle.unit.proofs.Luma.{luma-sound}
 use Rattle.unit.proofs.RootTree.{root-small}
 use Rattle.unit.proofs.Sizes.{rows-most}
 use Rattle.unit.proofs.Tested.{passes}
@@ -34,11 +38,17 @@ use Rattle.page.proofs.Fitting.{fits, line-long, lines-long}
 
 module _ (s : Settings) (a : ℕ) (h : unitRefusal s a ≡ 0) where
   address-small : a < 1000000
-  address-small = let t = unit-taken s a h in let m = count-most s (t .0) in let l = t .1 in omega arith
+  address-small =
+      let t = unit-taken (settingsRefusal s) (unitCount s) a h in
+      let p = passed s (t .0) in
+      let u = unit-side (p .ctu) in
+      let m = count-of-32 (gridded p) (u .least) in
+      let l = t .1 in
+      omega arith
 
-  pub tree-fits : (t : UnitTree s a) → Every (Fits a) (rowsOf t)
+  pub tree-fits : (t : UnitTree (unitsOf s) a) → Every (Fits a) (rowsOf t)
   tree-fits t =
-      let r = root-of s a h in
+      let r = root-of (luma-sound s) a h in
       let sh = r .good .shape in
       let x = side-power (sh .side Vertical) in
       let y = side-power (sh .side Horizontal) in
@@ -46,18 +56,18 @@ module _ (s : Settings) (a : ℕ) (h : unitRefusal s a ≡ 0) where
       every-map (λ row p. fits address-small (p .0) (p .1)) (every-both (root-small r t) deep)
 
   -- each line has 33 bytes
-  pub tree-wide : (t : UnitTree s a) → Every (λ r. length (line a r) ≡ 33) (rowsOf t)
-  tree-wide t = every-map (λ r small. line-long a address-small small) (root-small (root-of s a h) t)
+  pub tree-wide : (t : UnitTree (unitsOf s) a) → Every (λ r. length (line a r) ≡ 33) (rowsOf t)
+  tree-wide t = every-map (λ r small. line-long a address-small small) (root-small (root-of (luma-sound s) a h) t)
 
 -- what `print` asks: rows that are accepted have a small address, are few, and small
 pub accepted-rows : (s : Settings) (a : ℕ) (bytes : List ℕ) {count : ℕ} → answerOf (testUnit s a bytes) ≡ Accepted count
     → (a < 1000000) × (length bytes ≤ 8192) × Every SmallRow (rowsIn bytes)
 accepted-rows s a bytes e =
-    let p = passes s a bytes e in
-    let m = rows-most s a (p .there) (p .tree) in
+    let p = passes (luma-sound s) a bytes e in
+    let m = rows-most (luma-sound s) a (p .there) (p .tree) in
     let n : length (rowsOf (p .tree)) ≡ length bytes / 8 = ap length (p .rows) ∙ rows-long (length bytes / 8) bytes 0 in
     let w = p .whole in
-    (address-small s a (p .there), omega arith, rw (p .rows) at (root-small (root-of s a (p .there)) (p .tree)))
+    (address-small s a (p .there), omega arith, rw (p .rows) at (root-small (root-of (luma-sound s) a (p .there)) (p .tree)))
 
 -- ---- the delivery of the lines, by their count
 

@@ -1,8 +1,9 @@
-pub mod Calls
+pub mod CallFaults
 pub mod Numbers
 pub mod Samples
 pub mod OneTree
 pub mod StateCalls
+pub mod Calls
 pub mod LumaUnits
 pub mod Demand1
 pub mod Demand3

@@ -15,7 +15,7 @@ use Rattle.laws.proofs.Tests.{never}
 use Rattle.unit.specs.declared.Answer.{Answer}
 use Rattle.unit.specs.declared.Answer.the-variants.{Accepted, Refused}
 use Rattle.unit.specs.Answers.{Outcome, accepted}
-use Rattle.unit.specs.Luma.{rootOf}
+use Rattle.unit.specs.Units.{rootOf}
 use Rattle.sessions.specs.Samples.{inSquare}
 use Rattle.sessions.specs.Coding.{Coding}
 use Rattle.sessions.specs.Forest.{UnitPart, no-tree, a-tree, forestFlags, forestRows, rootCopies}
@@ -24,7 +24,7 @@ use Rattle.sessions.proofs.Tiling.{Tiling}
 use Rattle.sessions.proofs.Counts.{square-bit}
 use Rattle.sessions.proofs.Parts.{GoodRoot}
 use Rattle.sessions.proofs.Laws.{UnitTrees, UnitRead, Laws}
-use Rattle.picture.specs.Session.{Call}
+use Rattle.picture.specs.State.{Call}
 use Rattle.picture.specs.Lists.{Taken, taken}
 use Rattle.picture.specs.OneTree.{OneTree, oneTree}
 

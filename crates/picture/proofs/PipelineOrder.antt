@@ -3,11 +3,13 @@ use Prim.Native.Nat.{ℕ}
 use mathlib.Core.Path.{_≡_, sym}
 use mathlib.Core.List.{List}
 use native.Mathlib.Omega.{arith}
-use Rattle.settings.proofs.Passed.{usable}
+use Rattle.settings.specs.Checks.{settingsRefusal}
+use Rattle.settings.specs.Units.{unitCount}
 use Rattle.settings.proofs.Grid.{unit-taken}
 use Rattle.tree.specs.Rows.{rowsAt}
 use Rattle.laws.specs.CellOrder.{CellByCell}
 use Rattle.unit.specs.declared.Answer.the-variants.{Accepted}
+use Rattle.unit.proofs.Luma.{luma-sound}
 use Rattle.unit.proofs.RoundTrips.{read-there}
 use Rattle.sessions.proofs.Parts.{part-cells}
 use Rattle.sessions.proofs.CellOrder.{each-cells, joined-cells}
@@ -26,8 +28,8 @@ unit-order o units e a flags buffer f =
 pub pipeline-order : PipelineOrder
 pipeline-order = record {
   reading = λ s a flags buffer count e.
-      let t = unit-taken s a (read-there s a flags buffer count e) in
-      unit-order _ (greyscale-units s (usable (t .0))) (omega arith) a flags buffer e;
+      let t = unit-taken (settingsRefusal s) (unitCount s) a (read-there (luma-sound s) a flags buffer count e) in
+      unit-order _ (greyscale-units s (t .0)) (omega arith) a flags buffer e;
   session = λ s t e calls.
       let f = fresh s t e in
       let l = greyscale-laws s (f .0) in

@@ -8,9 +8,9 @@ use native.Mathlib.Nat.{div-add-mod', mul-le-mul-right, le-div-iff-mul-le, lt-di
 use lib.Dec.{leb, ltb, eqb}
 use borrow.Author.Tests.{eq-eqb, ne-eqb, lt-ltb, le-ltb, ltb-true, le-leb, lt-leb}
 use Rattle.sides.proofs.Bools.{and-left, and-right, and-intro}
-use Rattle.settings.specs.declared.Settings.{Settings}
-use Rattle.settings.specs.Units.{unitsOver, unitCount, squareAt}
+use Rattle.settings.specs.Units.{unitsOver, countIn, squareIn, Gridded}
 use Rattle.settings.specs.declared.Square.{Square}
+use Rattle.settings.proofs.Grid.{corner-x, corner-y}
 use Rattle.sessions.specs.Samples.{inSquare, isSample}
 use Rattle.sessions.proofs.Tiling.{Tiling}
 
@@ -60,35 +60,38 @@ unfolding unitsOver
 one-of-them c n p h l = let a = div-mul-le-self p c in le-div-iff-mul-le h .1 (omega arith)
 
 -- the address of the unit that holds a sample
-unfoldable unitOf : Settings → ℕ → ℕ → ℕ
-unitOf s px py = py / s .ctu * unitsOver (s .ctu) (s .width) + px / s .ctu
+unfoldable unitOf : (side width px py : ℕ) → ℕ
+unitOf side width px py = py / side * unitsOver side width + px / side
 
-module _ (s : Settings) (some : 0 < s .ctu) (px py : ℕ) (inX : px < s .width) where
+module _ (side width height : ℕ) (some : 0 < side) (px py : ℕ) (inX : px < width) where
   -- a unit's square holds the sample exactly where the unit has this address
-  in-square : (a : ℕ) → inSquare (squareAt s a) px py ≡ eqb a (unitOf s px py)
-  unfolding squareAt unitOf
+  in-square : (a : ℕ) → inSquare (squareIn side width a) px py ≡ eqb a (unitOf side width px py)
+  unfolding squareIn unitOf
   in-square a =
-      let across = unitsOver (s .ctu) (s .width) in
-      let c = one-of-them (s .ctu) (s .width) px some inX in
-      rw (in-side (s .ctu) (a % across) px some, in-side (s .ctu) (a / across) py some) (digits across a (px / s .ctu) (py / s .ctu) (omega arith) c)
+      let across = unitsOver side width in
+      let c = one-of-them side width px some inX in
+      rw (in-side side (a % across) px some, in-side side (a / across) py some) (digits across a (px / side) (py / side) (omega arith) c)
 
   -- which is one of the picture's
-  unit-there : py < s .height → unitOf s px py < unitCount s
-  unfolding unitOf unitCount
+  unit-there : py < height → unitOf side width px py < countIn side width height
+  unfolding unitOf countIn
   unit-there inY =
-      let c = one-of-them (s .ctu) (s .width) px some inX in
-      let r = one-of-them (s .ctu) (s .height) py some inY in
-      let u = mul-le-mul-right (unitsOver (s .ctu) (s .width)) r in
+      let c = one-of-them side width px some inX in
+      let r = one-of-them side height py some inY in
+      let u = mul-le-mul-right (unitsOver side width) r in
       omega arith
 
 -- ---- so the squares tile the picture
 
-module _ (s : Settings) (some : 0 < s .ctu) where
-  in-width : (px py : ℕ) → isSample (s .width) (s .height) px py ≡ true → px < s .width
-  in-width px py h = ltb-true px (s .width) (and-left (ltb px (s .width)) _ h)
+module _ {side width height : ℕ} (g : Gridded side width height) where
+  some : 0 < side
+  some = let l = g .least in omega arith
 
-  in-height : (px py : ℕ) → isSample (s .width) (s .height) px py ≡ true → py < s .height
-  in-height px py h = ltb-true py (s .height) (and-right (ltb px (s .width)) _ h)
+  in-width : (px py : ℕ) → isSample width height px py ≡ true → px < width
+  in-width px py h = ltb-true px width (and-left (ltb px width) _ h)
+
+  in-height : (px py : ℕ) → isSample width height px py ≡ true → py < height
+  in-height px py h = ltb-true py height (and-right (ltb px width) _ h)
 
   own-corner : (q : Square) → 0 < q .side → inSquare q (q .x) (q .y) ≡ true
   own-corner q h =
@@ -96,18 +99,17 @@ module _ (s : Settings) (some : 0 < s .ctu) where
       λ n. and-intro _ _ (le-leb n n (omega arith)) (lt-ltb n (n + q .side) (omega arith)) in
       and-intro _ _ (own (q .x)) (own (q .y))
 
-  square-side : (a : ℕ) → squareAt s a .side ≡ s .ctu
-  unfolding squareAt
+  square-side : (a : ℕ) → squareIn side width a .side ≡ side
+  unfolding squareIn
   square-side a = refl
 
-  -- where every unit begins in it
-  pub unit-tiling : ((a : ℕ) → a < unitCount s → (squareAt s a .x < s .width) × (squareAt s a .y < s .height))
-      → Tiling (s .width) (s .height) (unitCount s) (squareAt s)
-  unit-tiling begins = record {
-    holder = unitOf s;
-    there = λ px py h. unit-there s some px py (in-width px py h) (in-height px py h);
-    holds = λ px py h. in-square s some px py (in-width px py h);
-    corner = λ a h.
-        let b = begins a h in
-        (own-corner (squareAt s a) (rw (square-side a) some), and-intro _ _ (lt-ltb _ _ (b .0)) (lt-ltb _ _ (b .1)));
+  pub unit-tiling : Tiling width height (countIn side width height) (λ a. squareIn side width a)
+  unit-tiling = record {
+    holder = λ px py. unitOf side width px py;
+    there = λ px py h. unit-there side width height some px py (in-width px py h) (in-height px py h);
+    holds = λ px py h. in-square side width height some px py (in-width px py h);
+    corner = λ a h. (
+      own-corner (squareIn side width a) (rw (square-side a) some),
+      and-intro _ _ (lt-ltb _ _ (corner-x g a h)) (lt-ltb _ _ (corner-y g a h)),
+    );
   }

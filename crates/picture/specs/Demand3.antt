@@ -15,7 +15,8 @@ use Rattle.unit.specs.Writer.{writeFlags}
 use Rattle.sessions.specs.Samples as samples
 use Rattle.picture.specs.declared.Session.{Session}
 use Rattle.picture.specs.declared.Opened.the-variants.{Fresh}
-use Rattle.picture.specs.Session.{Call, opening}
+use Rattle.picture.specs.State.{Call}
+use Rattle.picture.specs.Session.{opening}
 use Rattle.picture.specs.Lists.{Taken, bytesOfUnit, acceptedIn, joined, flagLists}
 
 -- ---- samples

@@ -8,7 +8,8 @@ use Rattle.unit.specs.declared.Answer.{Answer}
 use Rattle.unit.specs.declared.Answer.the-variants.{Accepted, Refused}
 use Rattle.sessions.specs.Lists as lists
 use Rattle.picture.specs.declared.Session.{Session}
-use Rattle.picture.specs.Session.{Call, unitCall, following}
+use Rattle.picture.specs.State.{Call}
+use Rattle.picture.specs.Session.{unitCall, following}
 
 -- A unit that was accepted: its address, the flags given to it, the rows that it answered, and its row buffer as it
 -- stood when the call ended.

@@ -5,16 +5,16 @@ use mathlib.Core.List.{List}
 use lib.ListN.{length}
 use Rattle.settings.specs.declared.Settings.{Settings}
 use Rattle.settings.specs.declared.Square.{Square}
-use Rattle.settings.specs.Units.{unitCount, squareAt}
 use Rattle.tree.specs.Kind.{Kind}
 use Rattle.laws.specs.Geometry.{pipelineSide}
 use Rattle.unit.specs.declared.Answer.{Answer}
 use Rattle.unit.specs.Answers.{Outcome, accepted}
-use Rattle.unit.specs.Luma.{kindOf}
-use Rattle.unit.specs.Reader.{readUnit}
-use Rattle.unit.specs.Writer.{writeFlags}
+use Rattle.unit.specs.Units.{Units}
+use Rattle.unit.specs.Luma.{unitsOf}
+use Rattle.unit.specs.Reader.{readIn}
+use Rattle.unit.specs.Writer.{writeIn}
 use Rattle.sessions.specs.Coding.{Coding}
-use Rattle.picture.specs.Session.{Call}
+use Rattle.picture.specs.State.{Call}
 use Rattle.picture.specs.Lists.{Taken, rowsOfUnit, bytesOfUnit, taken}
 
 -- the units of a picture: the kind of their trees, how many there are, the square of each, and a single unit's calls
@@ -28,16 +28,20 @@ pub record OneTree : Type 0 where
   pub read : ℕ → List ℕ → List ℕ → Outcome
   pub turn : ℕ → List ℕ → List ℕ → Outcome
 
--- the units of a greyscale picture
-abbrev pub greyscale : Settings → OneTree
-greyscale s = record {
-  kind = kindOf s;
-  count = unitCount s;
-  square = squareAt s;
-  cell = pipelineSide (s .ctu);
-  read = readUnit s;
-  turn = writeFlags s;
+-- the units of a picture, by their side
+abbrev pub treeUnits : Units → (side : ℕ) → OneTree
+treeUnits us side = record {
+  kind = us .kind;
+  count = us .count;
+  square = us .square;
+  cell = pipelineSide side;
+  read = λ a flags buffer. readIn us a flags buffer;
+  turn = λ a bytes buffer. writeIn us a bytes buffer;
 }
+
+-- of a greyscale H.266 picture
+abbrev pub greyscale : Settings → OneTree
+greyscale s = treeUnits (unitsOf s) (s .ctu)
 
 -- The coding of a session over such units, by what a unit call on it answers and leaves, and the session that follows
 -- an answer. A unit has one table. Its rows are turned back into any buffer that is long enough.

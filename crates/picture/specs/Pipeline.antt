@@ -8,7 +8,8 @@ use Rattle.laws.specs.Every.{Every}
 use Rattle.laws.specs.Geometry.{InOneCell, InPipeline}
 use Rattle.picture.specs.declared.Session.{Session}
 use Rattle.picture.specs.declared.Opened.the-variants.{Fresh}
-use Rattle.picture.specs.Session.{Call, opening}
+use Rattle.picture.specs.State.{Call}
+use Rattle.picture.specs.Session.{opening}
 use Rattle.picture.specs.Lists.{acceptedIn, joined}
 
 -- after a list of calls

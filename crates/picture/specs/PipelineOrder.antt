@@ -12,7 +12,8 @@ use Rattle.unit.specs.declared.Answer.the-variants.{Accepted}
 use Rattle.unit.specs.Reader.{readUnit}
 use Rattle.picture.specs.declared.Session.{Session}
 use Rattle.picture.specs.declared.Opened.the-variants.{Fresh}
-use Rattle.picture.specs.Session.{Call, opening}
+use Rattle.picture.specs.State.{Call}
+use Rattle.picture.specs.Session.{opening}
 use Rattle.picture.specs.Lists.{rowsOfUnit, acceptedIn, joined}
 
 -- of a table, by the settings

@@ -1,11 +1,16 @@
 // The picture session: the units of a picture, read in the order of their addresses.
-use settings::Count;
+mod state;
+
 use settings::Settings;
+pub use state::State;
+pub use state::next_due;
+pub use state::state_at;
 use unit::Answer;
 ghost use mathlib.Core.Path.{_≡_};
-ghost use Prim.Native.Nat.{_<_};
-ghost use Rattle.picture.specs.Session.{opening, openedNumber, call, returned, Yields};
-ghost use Rattle.unit.specs.declared.Answer.the-variants.{Refused as Answer·Refused};
+ghost use Prim.Native.Nat.{ℕ, _<_};
+ghost use Rattle.unit.specs.declared.Answer.the-variants.{Accepted as Answer·Accepted};
+ghost use Rattle.picture.specs.State.{call};
+ghost use Rattle.picture.specs.Session.{opening, openedNumber, returned, Yields};
 
 // Document 01's session: the settings and the address due. Its fields are open to its holder, so a call checks them
 // again.
@@ -50,25 +55,14 @@ impl Session {
         Opened::Fresh(Session { settings, due: 0 })
     }
 
-    // A refusal yields the same session.
-    fn refused(self, number: u32, place: usize) -> Called
-        ensures { λ r. ⌜ r ≡ returned self (Answer·Refused number place) ⌝ }
-    {
-        Called {
-            session: self,
-            answer: Answer::Refused(number, place),
-        }
-    }
-
-    // An accepted unit yields the next session, a refused one the same.
-    fn answered(self, answer: Answer) -> Called
-        requires { ⌜ self .due < 262144 ⌝ }
+    // What a call with an answer returns: an accepted unit yields the next session, a refused one the same.
+    fn returned(self, answer: Answer) -> Called
+        requires { ⌜ ((count : ℕ) → answer ≡ Answer·Accepted count → self .due < 1048576) ⌝ }
         ensures { λ r. ⌜ r ≡ returned self answer ⌝ }
     {
+        let due = self.due;
         let mut session = self;
-        if let Answer::Accepted(_) = answer {
-            session.due = session.due + 1;
-        }
+        session.due = next_due(due, answer);
         Called { session, answer }
     }
 
@@ -78,18 +72,10 @@ impl Session {
         ensures { λ r. ⌜ Yields self (call address (now (flags .entry)) (now (rows .entry))) r (now (rows .exit)) ⌝ }
     {
         let settings = self.settings;
-        let Count::Units(count) = settings::unit_count(settings) else {
-            return self.refused(22, 0);
-        };
-        if count < self.due {
-            return self.refused(22, 0);
+        let due = self.due;
+        match state_at(settings::unit_count(settings), due, address) {
+            State::Refused(number, place) => self.returned(Answer::Refused(number, place)),
+            State::Due => self.returned(reader::read_unit(settings, address, flags, rows)),
         }
-        if self.due == count {
-            return self.refused(20, 0);
-        }
-        if address != self.due {
-            return self.refused(21, self.due);
-        }
-        self.answered(reader::read_unit(settings, address, flags, rows))
     }
 }

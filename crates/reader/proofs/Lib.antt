@@ -1,4 +1,4 @@
 pub mod Ends
 pub mod Delivery
 pub mod Whole
-pub mod Units
+pub mod Looked

@@ -64,16 +64,19 @@ ones-power (suc e) =
     let r : 2 ^ suc e % 2 ≡ 0 = omega arith in
     ones-step (2 ^ suc e) ∙ rw (r, h, ones-power e)
 
-power-side : {low high n : ℕ} → PowerFrom low high n → sideFrom low high n ≡ true
+pub power-side : {low high n : ℕ} → PowerFrom low high n → sideFrom low high n ≡ true
 power-side {low} {high} {n} p =
     rw (p .is, ones-power (p .exponent)) (rw (← (p .is), le-leb low n (p .least), le-leb n high (p .most)))
+
+pub side-power : {low high n : ℕ} → Side low high n → PowerFrom low high n
+side-power {n = n} x = record { exponent = exponent n; is = x .is; least = x .least; most = x .most }
 
 -- the test for a side tells that it is no power of two in the range
 side-tells : (low high n : ℕ) → high < 2 ^ 32 → Tells (not (sideFrom low high n)) (¬ PowerFrom low high n)
 side-tells low high n l = go (sideFrom low high n) refl
   where
     go : (b : Bool) → sideFrom low high n ≡ b → Tells (not b) (¬ PowerFrom low high n)
-    go true e = λ f. let x = side low high n l e in f (record { exponent = exponent n; is = x .is; least = x .least; most = x .most })
+    go true e = λ f. f (side-power (side low high n l e))
     go false e = λ p. clash (power-side p) e
 
 -- ---- the nine rules

@@ -97,28 +97,3 @@ passed s h =
       height = length-kept (s .mincb) (s .height) (p .1 .0);
       edge = edge-kept s (p .1 .1 .0);
     }
-
--- ---- what the laws of units and trees use of them; H.265's settings, with CTU sides from 16 on, have it too
-
-pub record Usable (s : Settings) : Type 0 where
-  pub ctu : Side 16 128 (s .ctu)
-  pub cb : Side 4 64 (s .mincb)
-  pub qt : Side (s .mincb) (min 64 (s .ctu)) (s .minqt)
-  pub bt : s .minqt ≤ s .maxbt
-  pub width : Length (s .mincb) (s .width)
-  pub height : Length (s .mincb) (s .height)
-  pub edge : s .maxmtt ≡ 0 → (s .width % s .minqt ≡ 0) × (s .height % s .minqt ≡ 0)
-
-pub usable : {s : Settings} → Passed s → Usable s
-usable p =
-    let u = unit-side (p .ctu) in
-    let c = p .cb in
-    record {
-      ctu = record { is = u .is; least = omega arith; most = u .most };
-      cb = record { is = c .is; least = c .least; most = omega arith };
-      qt = p .qt;
-      bt = p .bt .least;
-      width = p .width;
-      height = p .height;
-      edge = p .edge;
-    }

@@ -2,6 +2,7 @@
 -- the first of them (settings/proofs/Faults.antt).
 use Prim.Native.Nat.{ℕ, _-_, _*_, _%_, _^_, _≤_, _<_, min, max}
 use mathlib.Core.Path.{_≡_}
+use mathlib.Core.List.{List, [], _∷_}
 use mathlib.Core.Logic.{_⊎_}
 use Rattle.settings.specs.declared.Settings.{Settings}
 
@@ -34,6 +35,10 @@ pub data Breaks (s : Settings) : ℕ → Type 0 where
   bad-height : BadLength (s .mincb) (s .height) → Breaks s 8
   -- "M = 0, and width or height no multiple of MinQt"
   bad-edge : s .maxmtt ≡ 0 → ¬ ((s .width % s .minqt ≡ 0) × (s .height % s .minqt ≡ 0)) → Breaks s 9
+
+-- the numbers of these rules
+abbrev pub settingsNumbers : List ℕ
+settingsNumbers = 1 ∷ 2 ∷ 3 ∷ 4 ∷ 5 ∷ 6 ∷ 7 ∷ 8 ∷ 9 ∷ []
 
 -- "Checked in this order, first hit wins": this rule is broken, and none before it
 pub record SettingsFault (s : Settings) (number : ℕ) : Type 0 where

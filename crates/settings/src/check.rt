@@ -55,7 +55,7 @@ fn multiple(n: u32, m: u32) -> bool
     n & (m - 1) == 0
 }
 
-fn bad_length(mincb: u32, n: u32) -> bool
+pub fn bad_length(mincb: u32, n: u32) -> bool
     requires { ⌜ mincb ≡ 2 ^ exponent mincb ⌝ }
     ensures { λ r. ⌜ r ≡ badLength mincb n ⌝ }
 {

@@ -3,7 +3,10 @@ mod check;
 mod units;
 mod words;
 
+pub use check::bad_length;
 pub use check::refusal;
+pub use units::count_in;
+pub use units::locate;
 pub use units::unit_at;
 pub use units::unit_count;
 pub use words::from_words;

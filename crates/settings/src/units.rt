@@ -7,7 +7,7 @@ use crate::refusal;
 ghost use mathlib.Core.Path.{_≡_};
 ghost use Prim.Native.Nat.{_≤_, _<_, _^_};
 ghost use Rattle.sides.specs.Side.{exponent};
-ghost use Rattle.settings.specs.Units.{unitsOver, countOf, located};
+ghost use Rattle.settings.specs.Units.{unitsOver, countIn, squareIn, Gridded, refusalAt, locatedBy, countOf, located};
 
 // The units side by side that reach over n samples: those that end before the last sample, and the one that holds it.
 // So the compiler sees that they are never 0, and tests no divisor where an address is divided by them.
@@ -24,6 +24,33 @@ fn wide(x: u32) -> usize
     x as usize
 }
 
+// How many units of a side there are in a picture of a width and a height.
+pub fn count_in(side: u32, width: u32, height: u32) -> usize
+    requires { ⌜ Gridded side width height ⌝ }
+    ensures { λ r. ⌜ r ≡ countIn side width height ⌝ }
+{
+    wide(units_over(side, width) * units_over(side, height))
+}
+
+// The square of the unit at an address, or refusal 10.
+pub fn locate(side: u32, width: u32, height: u32, address: usize) -> Located
+    requires { ⌜ Gridded side width height ⌝ }
+    ensures { λ r. ⌜ r ≡ locatedBy (refusalAt 0 (countIn side width height) address) (squareIn side width address) ⌝ }
+{
+    let across = units_over(side, width);
+    let count = across * units_over(side, height);
+    if wide(count) <= address {
+        return Located::Refused(10);
+    }
+    let a = address as u32;
+    // The one division of the library, in 32 bits: the units across are no power of two.
+    Located::At(Square {
+        x: a % across * side,
+        y: a / across * side,
+        side,
+    })
+}
+
 // How many units the picture has, or the settings' refusal.
 pub fn unit_count(s: Settings) -> Count
     ensures { λ r. ⌜ r ≡ countOf s ⌝ }
@@ -32,7 +59,7 @@ pub fn unit_count(s: Settings) -> Count
     if k != 0 {
         return Count::Refused(k);
     }
-    Count::Units(wide(units_over(s.ctu, s.width) * units_over(s.ctu, s.height)))
+    Count::Units(count_in(s.ctu, s.width, s.height))
 }
 
 // The square of the unit at an address, or the refusal of the settings or of the address.
@@ -43,16 +70,5 @@ pub fn unit_at(s: Settings, address: usize) -> Located
     if k != 0 {
         return Located::Refused(k);
     }
-    let across = units_over(s.ctu, s.width);
-    let count = across * units_over(s.ctu, s.height);
-    if wide(count) <= address {
-        return Located::Refused(10);
-    }
-    let a = address as u32;
-    // The one division of the library, in 32 bits: the units across are no power of two.
-    Located::At(Square {
-        x: a % across * s.ctu,
-        y: a / across * s.ctu,
-        side: s.ctu,
-    })
+    locate(s.ctu, s.width, s.height, address)
 }

@@ -52,11 +52,6 @@ module _ (number count : ℕ) (bytes buffer : List ℕ) where
       go true = o
       go false = tt
 
--- a call that is accepted met no refusal before
-pub met-none : (b : Bool) (o : Outcome) (number place : ℕ) (buffer : List ℕ) {m : ℕ} → cond b o (refused number place buffer) .answer ≡ Accepted m → b ≡ true
-met-none true o number place buffer e = refl
-met-none false o number place buffer e = never (cc)
-
 -- ---- what the answer of a run says of its end
 
 module _ {A S : Type 0} (run : Run A S) where

@@ -2,7 +2,7 @@
 use mathlib.Core.Path.{refl}
 use lib.Count.{trailingZeros, ones, onesIn}
 use Rattle.settings.specs.Checks.{settingsRefusal}
-use Rattle.settings.specs.Units.{unitsOver, unitCount, unitRefusal, squareAt}
+use Rattle.settings.specs.Units.{unitsOver, countIn, refusalAt, squareIn, locatedBy}
 use Rattle.tree.specs.Splits.{binaryClosed, binaryOpen, ternaryOpen, rightsOf}
 use Rattle.tree.specs.Flags.{flagAt, afterBinary, afterVertical, afterQuad, afterSplit, decide}
 use Rattle.tree.specs.Children.{shares, childQt, childMtt, childOffset, child, childrenFrom, children, cornerInside}
@@ -12,12 +12,12 @@ use Rattle.tree.specs.Reading.{enter, walk}
 use Rattle.tree.specs.Back.{back, decisionFrom, cutFrom, startsAfter, sameRow, backInto, backWith}
 use Rattle.tree.specs.Search.{fitThen, better, fitRows, fitAll, fitBy, fitAny, fit}
 use Rattle.unit.specs.Answers.{deliver, finishEnd}
-use Rattle.unit.specs.Reader.{noneAfter, rowsFrom, readTree, readUnit}
-use Rattle.unit.specs.Writer.{fitEnd, flagsFrom, testRows, testUnit, writeFlags}
+use Rattle.unit.specs.Reader.{noneAfter, rowsFrom, readTree, readLocated}
+use Rattle.unit.specs.Writer.{fitEnd, flagsFrom, testRows, testLocated, writeLocated}
 use Rattle.unit.specs.Cases.{Checked}
 
 pub checked : Checked
-unfolding trailingZeros ones onesIn settingsRefusal unitsOver unitCount unitRefusal squareAt binaryClosed binaryOpen ternaryOpen rightsOf flagAt afterBinary afterVertical afterQuad afterSplit decide shares childQt childMtt childOffset child childrenFrom children cornerInside rowOf ownRows rowBytes tableBytes rowAt rowsAt before goOn overAll enter walk back decisionFrom cutFrom startsAfter sameRow backInto backWith fitThen better fitRows fitAll fitBy fitAny fit deliver finishEnd noneAfter rowsFrom readTree readUnit fitEnd flagsFrom testRows testUnit writeFlags
+unfolding trailingZeros ones onesIn settingsRefusal unitsOver countIn refusalAt squareIn locatedBy binaryClosed binaryOpen ternaryOpen rightsOf flagAt afterBinary afterVertical afterQuad afterSplit decide shares childQt childMtt childOffset child childrenFrom children cornerInside rowOf ownRows rowBytes tableBytes rowAt rowsAt before goOn overAll enter walk back decisionFrom cutFrom startsAfter sameRow backInto backWith fitThen better fitRows fitAll fitBy fitAny fit deliver finishEnd noneAfter rowsFrom readTree readLocated fitEnd flagsFrom testRows testLocated writeLocated
 checked = record {
   p1 = refl;
   p2 = refl;

@@ -8,7 +8,8 @@ pub mod FlagFaults
 pub mod TreeReading
 pub mod TreeTurning
 pub mod RootTree
-pub mod UnitFaults
+pub mod Sound
+pub mod Luma
 pub mod Tested
 pub mod ReadsExactly
 pub mod TurnsExactly

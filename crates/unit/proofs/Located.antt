@@ -1,40 +1,28 @@
--- A unit that is there or not, by what `unit_at` answers, and its root.
+-- A unit that was looked for and is there.
 use Prim.Native.Nat.{ℕ}
-use mathlib.Core.Path.{_≡_, refl, sym, ap, _∙_}
+use mathlib.Core.Path.{_≡_, refl}
 use mathlib.Core.Bool.{Bool, true, false, cond}
 use lib.Dec.{eqb}
-use borrow.Author.Tests.{eqb-true}
-use Rattle.settings.specs.declared.Settings.{Settings}
+use borrow.Author.Tests.{eqb-true, ne-eqb}
 use Rattle.settings.specs.declared.Square.{Square}
 use Rattle.settings.specs.declared.Located.{Located}
 use Rattle.settings.specs.declared.Located.the-variants.{At, Refused}
-use Rattle.settings.specs.Units.{unitRefusal, squareAt, located}
-use Rattle.tree.specs.declared.Node.{Node}
+use Rattle.settings.specs.Units.{refusalAt, locatedBy}
 use Rattle.laws.proofs.Tests.{never}
-use Rattle.unit.specs.Luma.{rootOf, rootAt}
-use Rattle.unit.proofs.Roots.{Root, root-of}
 
-module _ (s : Settings) (a : ℕ) {r : Located} (e : r ≡ located s a) where
-  pub found : {q : Square} → r ≡ At q → (unitRefusal s a ≡ 0) × (q ≡ squareAt s a)
-  unfolding located
-  found {q} h = go (eqb (unitRefusal s a) 0) refl (sym e ∙ h)
-    where
-      go : (b : Bool) → eqb (unitRefusal s a) 0 ≡ b → cond b (At (squareAt s a)) (Refused (unitRefusal s a)) ≡ At q → (unitRefusal s a ≡ 0) × (q ≡ squareAt s a)
-      go true t h = (eqb-true _ _ t, cc)
-      go false t h = never (cc)
+pub found : (refusal : ℕ) (square : Square) {q : Square} → locatedBy refusal square ≡ At q → (refusal ≡ 0) × (q ≡ square)
+unfolding locatedBy
+found refusal square {q} = go (eqb refusal 0) refl
+  where
+    go : (b : Bool) → eqb refusal 0 ≡ b → cond b (At square) (Refused refusal) ≡ At q → (refusal ≡ 0) × (q ≡ square)
+    go true t h = (eqb-true _ _ t, cc)
+    go false t h = never (cc)
 
-  pub missed : {k : ℕ} → r ≡ Refused k → (eqb (unitRefusal s a) 0 ≡ false) × (k ≡ unitRefusal s a)
-  unfolding located
-  missed {k} h = go (eqb (unitRefusal s a) 0) refl (sym e ∙ h)
-    where
-      go : (b : Bool) → eqb (unitRefusal s a) 0 ≡ b → cond b (At (squareAt s a)) (Refused (unitRefusal s a)) ≡ Refused k → (eqb (unitRefusal s a) 0 ≡ false) × (k ≡ unitRefusal s a)
-      go true t h = never (cc)
-      go false t h = (t, cc)
+-- by the refusal of the settings: it is answered first, and plays no part where it is 0
+pub settings-refused : {refusal : ℕ} → ¬ (refusal ≡ 0) → (count a : ℕ) (q : Square) → Refused refusal ≡ locatedBy (refusalAt refusal count a) q
+unfolding locatedBy refusalAt
+settings-refused {refusal} e count a q = let n = ne-eqb refusal 0 e in rw (n, n)
 
-  module _ {q : Square} (h : r ≡ At q) {root : Node} (j : root ≡ rootOf q) where
-    pub same-root : root ≡ rootAt s a
-    same-root = j ∙ ap (λ x. rootOf x) (found h .1)
-
-    -- it has the laws of a unit's root
-    pub unit-root : Root s a
-    unit-root = root-of s a (found h .0)
+pub settings-passed : {refusal : ℕ} → refusal ≡ 0 → (count a : ℕ) (q : Square) {at : Located} → at ≡ locatedBy (refusalAt 0 count a) q
+    → at ≡ locatedBy (refusalAt refusal count a) q
+settings-passed e count a q h = rw e h

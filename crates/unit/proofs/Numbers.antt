@@ -34,7 +34,7 @@ abbrev pub apart : List ℕ → List ℕ → Bool
 apart [] others = true
 apart (n ∷ ns) others = lacks n others && apart ns others
 
-not-both : (n : ℕ) (numbers others : List ℕ) → apart numbers others ≡ true → OneOf n numbers → ¬ OneOf n others
+pub not-both : (n : ℕ) (numbers others : List ℕ) → apart numbers others ≡ true → OneOf n numbers → ¬ OneOf n others
 not-both n (m ∷ ms) others p (inl e) o = not-listed m others (and-left (lacks m others) _ p) (subst (λ n. OneOf n others) e o)
 not-both n (m ∷ ms) others p (inr i) o = not-both n ms others (and-right (lacks m others) _ p) i o
 

@@ -1,28 +1,53 @@
 -- The root of a unit that is there: what the laws of coding trees ask of it.
-use Prim.Native.Nat.{ℕ, _+_, _^_, _≤_, _<_}
+use Prim.Native.Nat.{ℕ, _+_, _%_, _^_, _≤_, _<_, min, max}
 use mathlib.Core.Path.{_≡_, refl}
 use mathlib.Core.Bool.{true}
 use native.Mathlib.Omega.{arith}
 use native.Mathlib.Nat.{mul-mod-left}
 use borrow.Author.Tests.{lt-ltb}
 use Rattle.sides.proofs.Bools.{and-intro}
-use Rattle.settings.specs.declared.Settings.{Settings}
-use Rattle.settings.specs.Units.{unitRefusal, unitCount, squareAt}
-use Rattle.settings.proofs.Passed.{Usable, usable}
-use Rattle.settings.proofs.Grid.{corner-x, corner-y, unit-taken}
+use Rattle.sides.proofs.Powers.{Side}
+use Rattle.settings.specs.Units.{countIn, squareIn, Gridded}
+use Rattle.settings.proofs.Grid.{corner-x, corner-y}
 use Rattle.tree.specs.declared.Direction.{Direction}
 use Rattle.tree.specs.declared.Direction.the-variants.{Horizontal, Vertical}
+use Rattle.tree.specs.declared.Limits.{Limits}
+use Rattle.tree.specs.declared.Node.{Node}
 use Rattle.tree.specs.Children.{cornerInside}
+use Rattle.tree.specs.Kind.{Kind, luma}
 use Rattle.laws.specs.Directions.{extent}
 use Rattle.laws.specs.Good.{Good}
 use Rattle.laws.specs.Proper.{Proper, RootSquare}
 use Rattle.laws.proofs.Edge.{good-root}
-use Rattle.unit.specs.Luma.{limitsOf, kindOf, rootAt}
+use Rattle.unit.specs.Units.{rootOf}
 
--- ---- settings that the laws can use
+-- a root in the picture, with what the laws ask
+pub record Root (k : Kind) (root : Node) : Type 0 where
+  pub valid : Proper k
+  pub square : RootSquare (k .limits) root
+  pub good : Good (k .limits) root
+  pub here : cornerInside (k .limits) root ≡ true
+  pub fits : root .w + root .h + root .qt + root .mtt ≤ 256
+  pub wide : k .limits .width ≤ 16384
+  pub high : k .limits .height ≤ 16384
 
-module _ (s : Settings) (p : Usable s) where
-  usable-proper : Proper (kindOf s)
+pub picture-most : {k : Kind} {root : Node} → Root k root → (e : Direction) → extent e (k .limits) ≤ 2 ^ 16
+picture-most r Horizontal = let h = r .high in omega arith
+picture-most r Vertical = let w = r .wide in omega arith
+
+-- ---- the luma tree of limits that the laws can use, in units of a side
+
+pub record Usable (side : ℕ) (l : Limits) : Type 0 where
+  pub grid : Gridded side (l .width) (l .height)
+  pub cb : Side 4 64 (l .mincb)
+  pub qt : Side (l .mincb) (min 64 side) (l .minqt)
+  pub bt : l .minqt ≤ l .maxbt
+  pub width : l .width % max 8 (l .mincb) ≡ 0
+  pub height : l .height % max 8 (l .mincb) ≡ 0
+  pub edge : l .maxmtt ≡ 0 → (l .width % l .minqt ≡ 0) × (l .height % l .minqt ≡ 0)
+
+module _ {side : ℕ} {l : Limits} (p : Usable side l) where
+  usable-proper : Proper (luma l)
   usable-proper = record {
     cbPower = p .cb .is;
     leastCb = p .cb .least;
@@ -30,56 +55,48 @@ module _ (s : Settings) (p : Usable s) where
     leQt = p .qt .least;
     qt64 = let q = p .qt .most in omega arith;
     qtBt = p .bt;
-    width = p .width .multiple;
-    height = p .height .multiple;
+    width = p .width;
+    height = p .height;
     flat = p .edge;
     quad = λ n w h. refl;
     cut = λ n d w h a. refl;
   }
 
-  picture-most : (e : Direction) → extent e (limitsOf s) ≤ 2 ^ 16
-  picture-most Horizontal = let h = p .height .most in omega arith
-  picture-most Vertical = let h = p .width .most in omega arith
-
-  -- ---- a unit of the picture: a square of the CTU side, at multiples of it
-
+  -- a unit of the picture: a square of the side, at multiples of it
   module _ (a : ℕ) where
-    root-square : RootSquare (limitsOf s) (rootAt s a)
-    unfolding squareAt
+    abbrev root : Node
+    root = rootOf (squareIn side (l .width) a)
+
+    root-square : RootSquare l root
+    unfolding squareIn
     root-square =
-        let u = p .ctu in
+        let u = p .grid .least in
         let q = p .qt .most in
         record {
-          power = u .is;
+          power = p .grid .power;
           square = refl;
           least = omega arith;
-          most = u .most;
-          left = mul-mod-left _ (s .ctu);
-          top = mul-mod-left _ (s .ctu);
+          most = p .grid .most;
+          left = mul-mod-left _ side;
+          top = mul-mod-left _ side;
           uncut = refl;
           unlifted = refl;
         }
 
-    root-here : a < unitCount s → cornerInside (limitsOf s) (rootAt s a) ≡ true
+    root-here : a < countIn side (l .width) (l .height) → cornerInside l root ≡ true
     unfolding cornerInside
-    root-here h = and-intro _ _ (lt-ltb _ _ (corner-x s p a h)) (lt-ltb _ _ (corner-y s p a h))
+    root-here h = and-intro _ _ (lt-ltb _ _ (corner-x (p .grid) a h)) (lt-ltb _ _ (corner-y (p .grid) a h))
 
--- settings that the laws can use, a corner in the picture, and what the laws ask
-pub record Root (s : Settings) (a : ℕ) : Type 0 where
-  pub usable : Usable s
-  pub valid : Proper (kindOf s)
-  pub square : RootSquare (limitsOf s) (rootAt s a)
-  pub good : Good (limitsOf s) (rootAt s a)
-  pub here : cornerInside (limitsOf s) (rootAt s a) ≡ true
-  pub fits : rootAt s a .w + rootAt s a .h + rootAt s a .qt + rootAt s a .mtt ≤ 256
-  pub picture : (e : Direction) → extent e (limitsOf s) ≤ 2 ^ 16
-
-pub usable-root : (s : Settings) → Usable s → (a : ℕ) → a < unitCount s → Root s a
-usable-root s p a h =
-    let v = usable-proper s p in
-    let r = root-square s p a in
-    let m = r .most in
-    record { usable = p; valid = v; square = r; good = good-root v r; here = root-here s p a h; fits = omega arith; picture = picture-most s p }
-
-pub root-of : (s : Settings) (a : ℕ) → unitRefusal s a ≡ 0 → Root s a
-root-of s a h = let t = unit-taken s a h in usable-root s (usable (t .0)) a (t .1)
+    pub usable-root : a < countIn side (l .width) (l .height) → Root (luma l) (rootOf (squareIn side (l .width) a))
+    usable-root h =
+        let r = root-square in
+        let m = r .most in
+        record {
+          valid = usable-proper;
+          square = r;
+          good = good-root usable-proper r;
+          here = root-here h;
+          fits = omega arith;
+          wide = p .grid .wide .1;
+          high = p .grid .high .1;
+        }

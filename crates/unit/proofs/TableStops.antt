@@ -6,8 +6,6 @@ use mathlib.Core.List.{List, [], _∷_, _++_, append-nil}
 use mathlib.Core.Logic.{inl, inr}
 use native.Mathlib.Omega.{arith}
 use lib.ListN.{length}
-use Rattle.settings.specs.declared.Settings.{Settings}
-use Rattle.settings.specs.Units.{unitRefusal}
 use Rattle.tree.specs.declared.Node.{Node}
 use Rattle.tree.specs.Kind.{Kind}
 use Rattle.tree.specs.Rows.{Row, rowsIn}
@@ -18,12 +16,13 @@ use Rattle.laws.proofs.Tests.{never}
 use Rattle.unit.specs.declared.Answer.{Answer}
 use Rattle.unit.specs.declared.Answer.the-variants.{Refused}
 use Rattle.unit.specs.Answers.{answerOf}
-use Rattle.unit.specs.Luma.{kindOf, rootAt}
-use Rattle.unit.specs.Writer.{testUnit, writeFlags}
+use Rattle.unit.specs.Units.{Units, refusalIn, rootIn}
+use Rattle.unit.specs.Writer.{testIn, writeIn}
 use Rattle.unit.specs.Exactly.{OneOf, noTreeNumbers, AcceptedOr}
 use Rattle.unit.specs.Faults.{TableFault, ends-early, goes-past, leaves-trees, rows-none}
-use Rattle.unit.specs.TableStops.{TableAnswer, TableStops}
-use Rattle.unit.proofs.Roots.{root-of}
+use Rattle.unit.specs.TableStops.{TableAnswer, StopsByTrees, TableStops}
+use Rattle.unit.proofs.Sound.{Sound, root-of}
+use Rattle.unit.proofs.Luma.{luma-sound}
 use Rattle.unit.proofs.RootTree.{root-turning, root-search}
 use Rattle.unit.proofs.Accepts.{deliver-or}
 use Rattle.unit.proofs.Numbers.{apart, one-of-more, answered-later, not-answered}
@@ -111,20 +110,23 @@ module _ {k : Kind} {root : Node} {rows : List Row} (delivery : List ℕ) (p : a
 
 -- ---- the two calls on a unit
 
-module _ (s : Settings) (a : ℕ) (h : unitRefusal s a ≡ 0) (bytes : List ℕ) (w : length bytes % 8 ≡ 0) where
-  stands : RowsTurned (kindOf s) (rootAt s a) (rowsIn bytes)
-  stands = let r = root-of s a h in turned-or-refused (root-turning r) (root-search r) (rowsIn bytes)
+module _ {us : Units} (law : Sound us) (a : ℕ) (h : refusalIn us a ≡ 0) (bytes : List ℕ) (w : length bytes % 8 ≡ 0) where
+  stands : RowsTurned (us .kind) (rootIn us a) (rowsIn bytes)
+  stands = let r = root-of law a h in turned-or-refused (root-turning r) (root-search r) (rowsIn bytes)
 
-  stops-test : (number place : ℕ) → TableFault (kindOf s) (rootAt s a) (rowsIn bytes) number place → testUnit s a bytes .end ≡ stops number place
-  stops-test number place f = fault-stops s a bytes (rows-none h w f)
+  stops-test : (number place : ℕ) → TableFault (us .kind) (rootIn us a) (rowsIn bytes) number place → testIn us a bytes .end ≡ stops number place
+  stops-test number place f = fault-stops law a bytes (rows-none h w f)
 
-  of-test : TableAnswer (kindOf s) (rootAt s a) (rowsIn bytes) [] (answerOf (testUnit s a bytes))
-  of-test = table-answer [] refl _ stands (λ t. rw (has-tested s a bytes h w t) tt) (λ number place f. rw (stops-test number place f))
+  of-test : TableAnswer (us .kind) (rootIn us a) (rowsIn bytes) [] (answerOf (testIn us a bytes))
+  of-test = table-answer [] refl _ stands (λ t. rw (has-tested law a bytes h w t) tt) (λ number place f. rw (stops-test number place f))
 
-  of-way-back : (buffer : List ℕ) → TableAnswer (kindOf s) (rootAt s a) (rowsIn bytes) (17 ∷ []) (writeFlags s a bytes buffer .answer)
+  of-way-back : (buffer : List ℕ) → TableAnswer (us .kind) (rootIn us a) (rowsIn bytes) (17 ∷ []) (writeIn us a bytes buffer .answer)
   of-way-back buffer =
-      table-answer (17 ∷ []) refl _ stands (λ t. rw (write-given s a bytes buffer (has-tested s a bytes h w t)) (deliver-or 17 _ _ buffer (17 ∷ []) (inl refl)))
-      (λ number place f. ap (λ o. o .answer) (write-stopped s a bytes buffer number place (stops-test number place f)))
+      table-answer (17 ∷ []) refl _ stands (λ t. rw (write-given law a bytes buffer (has-tested law a bytes h w t)) (deliver-or 17 _ _ buffer (17 ∷ []) (inl refl)))
+      (λ number place f. ap (λ o. o .answer) (write-stopped law a bytes buffer number place (stops-test number place f)))
+
+pub stops-by-trees : {us : Units} → Sound us → (a : ℕ) → refusalIn us a ≡ 0 → StopsByTrees us a
+stops-by-trees law a h bytes w = (of-test law a h bytes w, of-way-back law a h bytes w)
 
 pub table-stops : TableStops
-table-stops s a h bytes w = (of-test s a h bytes w, of-way-back s a h bytes w)
+table-stops s = stops-by-trees (luma-sound s)

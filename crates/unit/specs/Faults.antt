@@ -5,10 +5,6 @@ use mathlib.Core.Path.{_≡_}
 use mathlib.Core.List.{List, [], _∷_, _++_}
 use mathlib.Core.Logic.{_↔_}
 use lib.ListN.{length}
-use Rattle.settings.specs.declared.Settings.{Settings}
-use Rattle.settings.specs.Checks.{settingsRefusal}
-use Rattle.settings.specs.Faults.{SettingsFault}
-use Rattle.settings.specs.Units.{unitCount, unitRefusal}
 use Rattle.tree.specs.declared.Node.{Node}
 use Rattle.tree.specs.Kind.{Kind}
 use Rattle.tree.specs.Rows.{Row, tableBytes, rowsIn}
@@ -16,16 +12,16 @@ use Rattle.tree.specs.Tree.{Tree, flagsOf, rowsOf}
 use Rattle.laws.specs.Begins.{GoesOn, GoesPast, LeavesAt}
 use Rattle.unit.specs.declared.Answer.{Answer}
 use Rattle.unit.specs.declared.Answer.the-variants.{Accepted, Refused}
-use Rattle.unit.specs.Luma.{kindOf, rootAt}
+use Rattle.unit.specs.Units.{Units, refusalIn, rootIn}
 use Rattle.unit.specs.Exactly.{UnitTree, AcceptedOr}
 
 -- ---- the settings and the unit
 
--- 1 to 9, the first rule that the settings break (settings/specs/Faults.antt), then 10
-pub data UnitFault (s : Settings) (a : ℕ) : ℕ → Type 0 where
-  bad-settings : {number : ℕ} → SettingsFault s number → UnitFault s a number
+-- the first rule that the settings break (of H.266's: settings/specs/Faults.antt), then 10
+pub data UnitFault (us : Units) (a : ℕ) : ℕ → Type 0 where
+  bad-settings : {number : ℕ} → us .Fault number → UnitFault us a number
   -- "No such unit"
-  no-unit : settingsRefusal s ≡ 0 → unitCount s ≤ a → UnitFault s a 10
+  no-unit : us .refusal ≡ 0 → us .count ≤ a → UnitFault us a 10
 
 -- ---- flags, by the coding trees of a root
 
@@ -45,13 +41,13 @@ pub data FlagFault (k : Kind) (root : Node) (flags : List ℕ) : ℕ → ℕ →
 
 -- ---- the calls on a unit, by the length of the buffer that they are lent
 
-pub data ReadFault (s : Settings) (a : ℕ) (flags : List ℕ) (room : ℕ) : ℕ → ℕ → Type 0 where
-  read-unit : {number : ℕ} → UnitFault s a number → ReadFault s a flags room number 0
-  read-flags : {number place : ℕ} → unitRefusal s a ≡ 0 → FlagFault (kindOf s) (rootAt s a) flags number place
-      → ReadFault s a flags room number place
+pub data ReadFault (us : Units) (a : ℕ) (flags : List ℕ) (room : ℕ) : ℕ → ℕ → Type 0 where
+  read-unit : {number : ℕ} → UnitFault us a number → ReadFault us a flags room number 0
+  read-flags : {number place : ℕ} → refusalIn us a ≡ 0 → FlagFault (us .kind) (rootIn us a) flags number place
+      → ReadFault us a flags room number place
   -- "Row buffer shorter than 8 × rows; place: rows needed"
-  read-room : unitRefusal s a ≡ 0 → (t : UnitTree s a) → flagsOf t ≡ flags → room < 8 * length (rowsOf t)
-      → ReadFault s a flags room 14 (length (rowsOf t))
+  read-room : refusalIn us a ≡ 0 → (t : UnitTree us a) → flagsOf t ≡ flags → room < 8 * length (rowsOf t)
+      → ReadFault us a flags room 14 (length (rowsOf t))
 
 -- ---- rows, by the coding trees of a root
 
@@ -64,38 +60,39 @@ pub data TableFault (k : Kind) (root : Node) (rows : List Row) : ℕ → ℕ →
   -- tree's table for this unit begins"
   leaves-trees : {p : ℕ} → LeavesAt k root rows p → TableFault k root rows 16 p
 
--- rows that are tested for the way back: 1 to 10, 15, then 27, 28 and 16
-pub data RowsFault (s : Settings) (a : ℕ) (bytes : List ℕ) : ℕ → ℕ → Type 0 where
-  rows-unit : {number : ℕ} → UnitFault s a number → RowsFault s a bytes number 0
+-- rows that are tested for the way back: the unit's, 15, then 27, 28 and 16
+pub data RowsFault (us : Units) (a : ℕ) (bytes : List ℕ) : ℕ → ℕ → Type 0 where
+  rows-unit : {number : ℕ} → UnitFault us a number → RowsFault us a bytes number 0
   -- "Row bytes no multiple of 8; place: whole rows"
-  rows-cut : unitRefusal s a ≡ 0 → ¬ (length bytes % 8 ≡ 0) → RowsFault s a bytes 15 (length bytes / 8)
-  rows-none : {number place : ℕ} → unitRefusal s a ≡ 0 → length bytes % 8 ≡ 0
-      → TableFault (kindOf s) (rootAt s a) (rowsIn bytes) number place → RowsFault s a bytes number place
+  rows-cut : refusalIn us a ≡ 0 → ¬ (length bytes % 8 ≡ 0) → RowsFault us a bytes 15 (length bytes / 8)
+  rows-none : {number place : ℕ} → refusalIn us a ≡ 0 → length bytes % 8 ≡ 0
+      → TableFault (us .kind) (rootIn us a) (rowsIn bytes) number place → RowsFault us a bytes number place
 
 -- a call that tests rows and then delivers what it makes of their tree: refused with a number of its own where the lent
 -- buffer is shorter than that, the place the bytes needed
-pub data TestedFault (s : Settings) (a : ℕ) (bytes : List ℕ) (short : ℕ) (made : UnitTree s a → List ℕ) (room : ℕ)
+pub data TestedFault (us : Units) (a : ℕ) (bytes : List ℕ) (short : ℕ) (made : UnitTree us a → List ℕ) (room : ℕ)
     : ℕ → ℕ → Type 0 where
-  tested-rows : {number place : ℕ} → RowsFault s a bytes number place → TestedFault s a bytes short made room number place
-  tested-room : unitRefusal s a ≡ 0 → (t : UnitTree s a) → tableBytes (rowsOf t) ≡ bytes → room < length (made t)
-      → TestedFault s a bytes short made room short (length (made t))
+  tested-rows : {number place : ℕ} → RowsFault us a bytes number place → TestedFault us a bytes short made room number place
+  tested-room : refusalIn us a ≡ 0 → (t : UnitTree us a) → tableBytes (rowsOf t) ≡ bytes → room < length (made t)
+      → TestedFault us a bytes short made room short (length (made t))
 
 -- the way back: the rows' faults; then "Flag buffer shorter than the flags; place: flags needed"
-abbrev pub TurnFault : Settings → ℕ → List ℕ → ℕ → ℕ → ℕ → Type 0
-TurnFault s a bytes room = TestedFault s a bytes 17 flagsOf room
+abbrev pub TurnFault : Units → ℕ → List ℕ → ℕ → ℕ → ℕ → Type 0
+TurnFault us a bytes room = TestedFault us a bytes 17 flagsOf room
 
 -- ---- a call that its faults decide
 
--- document 01: "A single unit's reader uses 1 to 14, the way back 1 to 10 and 15 to 17", and document 02's 27 and 28
-abbrev pub readNumbers : List ℕ
-readNumbers = 1 ∷ 2 ∷ 3 ∷ 4 ∷ 5 ∷ 6 ∷ 7 ∷ 8 ∷ 9 ∷ 10 ∷ 11 ∷ 12 ∷ 13 ∷ 14 ∷ []
+-- after the numbers of the settings' refusals, for H.266 1 to 9. Document 01: "A single unit's reader uses 1 to 14, the way back 1 to 10 and 15 to 17",
+-- and document 02's 27 and 28
+abbrev pub readNumbers : List ℕ → List ℕ
+readNumbers settings = settings ++ (10 ∷ 11 ∷ 12 ∷ 13 ∷ 14 ∷ [])
 
 -- the test of rows uses those of the way back but 17
-abbrev pub rowsNumbers : List ℕ
-rowsNumbers = 1 ∷ 2 ∷ 3 ∷ 4 ∷ 5 ∷ 6 ∷ 7 ∷ 8 ∷ 9 ∷ 10 ∷ 15 ∷ 27 ∷ 28 ∷ 16 ∷ []
+abbrev pub rowsNumbers : List ℕ → List ℕ
+rowsNumbers settings = settings ++ (10 ∷ 15 ∷ 27 ∷ 28 ∷ 16 ∷ [])
 
-abbrev pub turnNumbers : List ℕ
-turnNumbers = rowsNumbers ++ (17 ∷ [])
+abbrev pub turnNumbers : List ℕ → List ℕ
+turnNumbers settings = rowsNumbers settings ++ (17 ∷ [])
 
 -- What a call's answer says, given its possible faults, the numbers that it uses, and what it was lent before and after.
 pub record Decides {Lent : Type 0} (Fault : ℕ → ℕ → Type 0) (numbers : List ℕ) (answer : Answer) (lent left : Lent) : Type 0 where

@@ -1,4 +1,5 @@
 pub mod Answers
+pub mod Units
 pub mod Luma
 pub mod Reader
 pub mod Writer

@@ -1,12 +1,27 @@
--- A unit's luma tree: its limits and its root.
+-- The units of a picture with luma trees, and those of an H.266 picture.
 use Prim.Native.Nat.{ℕ}
+use mathlib.Core.List.{List}
 use Rattle.settings.specs.declared.Settings.{Settings}
-use Rattle.settings.specs.declared.Square.{Square}
-use Rattle.settings.specs.Units.{squareAt}
+use Rattle.settings.specs.Checks.{settingsRefusal}
+use Rattle.settings.specs.Faults.{settingsNumbers, SettingsFault}
+use Rattle.settings.specs.Units.{countIn, squareIn, squareAt}
 use Rattle.tree.specs.declared.Limits.{Limits}
 use Rattle.tree.specs.declared.Node.{Node}
-use Rattle.tree.specs.declared.Decision.the-variants.{Leaf}
 use Rattle.tree.specs.Kind.{Kind, luma}
+use Rattle.unit.specs.Units.{Units, rootOf}
+
+-- by the settings' refusal, its numbers and faults, the side of the units, and the limits of their trees
+abbrev pub lumaUnits : (refusal : ℕ) → List ℕ → (ℕ → Type 0) → (side : ℕ) → Limits → Units
+lumaUnits refusal numbers Fault side l = record {
+  refusal = refusal;
+  numbers = numbers;
+  Fault = Fault;
+  kind = luma l;
+  count = countIn side (l .width) (l .height);
+  square = λ address. squareIn side (l .width) address;
+}
+
+-- ---- H.266's
 
 abbrev pub limitsOf : Settings → Limits
 limitsOf s = record {
@@ -22,9 +37,8 @@ limitsOf s = record {
 abbrev pub kindOf : Settings → Kind
 kindOf s = luma (limitsOf s)
 
--- "The root is the whole unit with all depths, offset and part 0"; nothing was split above it
-abbrev pub rootOf : Square → Node
-rootOf q = record { x = q .x; y = q .y; w = q .side; h = q .side; qt = 0; mtt = 0; offset = 0; part = 0; parent = Leaf }
-
 abbrev pub rootAt : Settings → ℕ → Node
 rootAt s address = rootOf (squareAt s address)
+
+abbrev pub unitsOf : Settings → Units
+unitsOf s = lumaUnits (settingsRefusal s) settingsNumbers (SettingsFault s) (s .ctu) (limitsOf s)

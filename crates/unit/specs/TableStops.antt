@@ -15,8 +15,9 @@ use Rattle.laws.specs.Begins.{HasRows, GoesOn, GoesPast, LeavesAt}
 use Rattle.unit.specs.declared.Answer.{Answer}
 use Rattle.unit.specs.declared.Answer.the-variants.{Refused}
 use Rattle.unit.specs.Answers.{answerOf}
-use Rattle.unit.specs.Luma.{kindOf, rootAt}
-use Rattle.unit.specs.Writer.{testUnit, writeFlags}
+use Rattle.unit.specs.Units.{Units, rootIn}
+use Rattle.unit.specs.Luma.{unitsOf}
+use Rattle.unit.specs.Writer.{testIn, writeIn}
 use Rattle.unit.specs.Exactly.{noTreeNumbers, AcceptedOr}
 
 -- the answer for rows, by the coding trees of a root; what is delivered of a tree's rows is accepted, or refused with one of these numbers
@@ -34,7 +35,11 @@ pub record TableAnswer (k : Kind) (root : Node) (rows : List Row) (delivery : Li
   -- there is no other answer
   pub numbers : AcceptedOr (noTreeNumbers ++ delivery) answer
 
+-- of every table of whole rows of a unit
+abbrev pub StopsByTrees : Units → ℕ → Type 0
+StopsByTrees us a = (bytes : List ℕ) → length bytes % 8 ≡ 0
+    → TableAnswer (us .kind) (rootIn us a) (rowsIn bytes) [] (answerOf (testIn us a bytes))
+    × ((buffer : List ℕ) → TableAnswer (us .kind) (rootIn us a) (rowsIn bytes) (17 ∷ []) (writeIn us a bytes buffer .answer))
+
 abbrev pub TableStops : Type 0
-TableStops = (s : Settings) (a : ℕ) → unitRefusal s a ≡ 0 → (bytes : List ℕ) → length bytes % 8 ≡ 0
-    → TableAnswer (kindOf s) (rootAt s a) (rowsIn bytes) [] (answerOf (testUnit s a bytes))
-    × ((buffer : List ℕ) → TableAnswer (kindOf s) (rootAt s a) (rowsIn bytes) (17 ∷ []) (writeFlags s a bytes buffer .answer))
+TableStops = (s : Settings) (a : ℕ) → unitRefusal s a ≡ 0 → StopsByTrees (unitsOf s) a

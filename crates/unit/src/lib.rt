@@ -6,7 +6,8 @@ use tree::Limits;
 use tree::Node;
 ghost use mathlib.Core.Path.{_≡_};
 ghost use Rattle.unit.specs.Answers.{numberOf, valueOf};
-ghost use Rattle.unit.specs.Luma.{limitsOf, rootOf};
+ghost use Rattle.unit.specs.Luma.{limitsOf};
+ghost use Rattle.unit.specs.Units.{rootOf};
 
 // The answer of a call: how many rows, flags or bytes of a page there are, or a refusal's number and place.
 pub enum Answer {

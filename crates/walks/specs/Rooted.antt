@@ -1,8 +1,10 @@
 -- The root of a tree, as the walk of its root needs it: above all cuts, of any QT depth. A call's contract needs none of this.
-use Prim.Native.Nat.{ℕ, _+_, _*_, _≤_}
+use Prim.Native.Nat.{ℕ, _+_, _*_, _≤_, _<_}
 use mathlib.Core.Path.{_≡_}
 use mathlib.Core.Bool.{Bool, true}
 use mathlib.Core.List.{List}
+use Rattle.settings.specs.declared.Settings.{Settings}
+use Rattle.settings.specs.Units.{unitCount, Gridded}
 use Rattle.tree.specs.declared.Node.{Node}
 use Rattle.tree.specs.Kind.{Kind}
 use Rattle.tree.specs.Splits.{isOut, rightsOf, openSplits}
@@ -10,6 +12,7 @@ use Rattle.tree.specs.Children.{cornerInside}
 use Rattle.tree.specs.Rows.{rowOf}
 use Rattle.blocks.specs.RowNumbers.{rowWord}
 use Rattle.laws.specs.Proper.{Proper}
+use Rattle.unit.specs.Luma.{kindOf, rootAt}
 use Rattle.nodes.specs.State.{placeOf, givenOf}
 use Rattle.nodes.specs.Tables.{tableOf}
 use Rattle.walks.specs.Stands.{Placed, areaIn}
@@ -20,6 +23,11 @@ pub record Rooted (k : Kind) (root : Node) : Type 0 where
   pub placed : Placed (k .limits) root
   pub here : cornerInside (k .limits) root ≡ true
   pub uncut : root .mtt ≡ 0
+
+-- Settings, with the refusal of the check that they went through, H.266's or H.265's: where they passed, their units are found and their roots walked.
+pub record Checked (refusal : ℕ) (s : Settings) : Type 0 where
+  pub grid : refusal ≡ 0 → Gridded (s .ctu) (s .width) (s .height)
+  pub rooted : refusal ≡ 0 → (a : ℕ) → a < unitCount s → Rooted (kindOf s) (rootAt s a)
 
 -- The numbers that the walk of a root is given: the table of its kind, its row, whether it is out of the picture, and its open splits.
 pub record Given (k : Kind) (root : Node) (u : List ℕ) (row : ℕ) (out : Bool) (splits : ℕ) : Type 0 where

@@ -1,5 +1,6 @@
 pub mod Alone
 pub mod Delivery
 pub mod Ends
-pub mod Units
+pub mod Looked
 pub mod Whole
+pub mod QuadLeaf

@@ -5,6 +5,10 @@ use mathlib.Core.Bool.{Bool, false, _&&_, cond}
 use mathlib.Core.List.{List, _++_}
 use lib.ListN.{length, take, drop}
 use lib.Dec.{ltb, eqb}
+use Rattle.settings.specs.declared.Settings.{Settings}
+use Rattle.settings.specs.declared.Located.{Located}
+use Rattle.settings.specs.declared.Located.the-variants.{At}
+use Rattle.settings.specs.declared.Located.the-variants as unit
 use Rattle.tree.specs.declared.Limits.{Limits}
 use Rattle.tree.specs.declared.Node.{Node}
 use Rattle.tree.specs.declared.Decision.the-variants.{Leaf}
@@ -17,6 +21,8 @@ use Rattle.tree.specs.Back.{sameRow}
 use Rattle.tree.specs.Search.{stuck, fitNode}
 use Rattle.unit.specs.declared.Answer.{Answer}
 use Rattle.unit.specs.declared.Answer.the-variants.{Accepted, Refused}
+use Rattle.unit.specs.Units.{rootOf}
+use Rattle.unit.specs.Luma.{limitsOf}
 use Rattle.unit.specs.Writer.{fitEnd}
 use Rattle.unit.specs.Answers.{Outcome, refused, deliver, answerOf}
 use Rattle.nodes.specs.State.{placeOf, givenOf}
@@ -24,6 +30,11 @@ use Rattle.nodes.specs.State.{placeOf, givenOf}
 -- the bytes are one row, the root's own, and the root lies inside the picture: it is a leaf
 abbrev pub leafAlone : Limits → Node → List ℕ → Bool
 leafAlone l root bytes = eqb (length bytes) 8 && (sameRow (rowAt bytes 0) (rowOf root) && inside l root)
+
+-- of a unit that was looked for: it is there, and QT is open at its root besides
+abbrev pub quadAlone : Settings → Located → List ℕ → Bool
+quadAlone s (At q) bytes = ltb (s .minqt) (q .side) && leafAlone (limitsOf s) (rootOf q) bytes
+quadAlone s (unit.Refused number) bytes = false
 
 -- the flags of a root that is a leaf, by its open splits
 abbrev pub leafFlags : ℕ → List ℕ

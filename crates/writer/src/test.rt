@@ -12,16 +12,17 @@ use unit::Answer;
 ghost use mathlib.Core.Path.{_≡_};
 ghost use Prim.Native.Nat.{_%_};
 ghost use lib.ListN.{length};
+ghost use Rattle.settings.specs.Units.{unitCount, squareAt, refusalAt, locatedBy};
 ghost use Rattle.tree.specs.Kind.{luma};
 ghost use Rattle.tree.specs.Splits.{rightsOf, openSplits};
 ghost use Rattle.unit.specs.Answers.{answerOf};
 ghost use Rattle.unit.specs.Writer.{testRows, testUnit};
-ghost use Rattle.walks.specs.Rooted.{Rooted};
+ghost use Rattle.walks.specs.Rooted.{Rooted, Checked};
 ghost use Rattle.tree.specs.Rows.{rowsIn};
 ghost use Rattle.tree.specs.Back.{backNode};
 ghost use Rattle.walks.specs.Walks.{Done};
 ghost use Rattle.back.specs.Walking.{backWay};
-ghost use Rattle.writer.specs.Delivery.{leafAlone, leafFlags, walkEnd, StuckEnd};
+ghost use Rattle.writer.specs.Delivery.{leafAlone, quadAlone, leafFlags, walkEnd, StuckEnd};
 
 // Whether the only row is the root's own, and the root lies inside the picture: then it is a leaf.
 pub(crate) fn is_leaf(l: Limits, root: Node, rows: &[u8]) -> bool
@@ -36,6 +37,24 @@ pub(crate) fn is_leaf(l: Limits, root: Node, rows: &[u8]) -> bool
     } else {
         false
     }
+}
+
+// Whether the only row is that of the unit at an address, which is there and inside the picture, and QT is open: then the
+// unit is a leaf, with one flag.
+pub(crate) fn is_quad_leaf(refusal: u32, s: Settings, address: usize, rows: &[u8]) -> bool
+    requires { ⌜ Checked refusal s ⌝ }
+    ensures { λ r. ⌜ r ≡ quadAlone s (locatedBy (refusalAt refusal (unitCount s) address) (squareAt s address)) (now (rows .entry)) ⌝ }
+{
+    if refusal != 0 {
+        return false;
+    }
+    let Located::At(q) = settings::locate(s.ctu, s.width, s.height, address) else {
+        return false;
+    };
+    if q.side <= s.minqt {
+        return false;
+    }
+    is_leaf(unit::limits(s), unit::root(q), rows)
 }
 
 // The open splits of a root, as far as the flags of a leaf depend on them: where QT is open, no other one plays a part.

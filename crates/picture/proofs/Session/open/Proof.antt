@@ -1,7 +1,7 @@
 -- `open` meets its contract.
 use borrow.Author.Needs.{needs}
 use borrow.Author.Tests.{eq-eqb, ne-eqb}
-use Rattle.picture.specs.Session.{opening}
+use Rattle.picture.specs.State.{openedBy}
 use Rattle.picture.proofs.Session.open.Statement.{statement}
 use Rattle.picture.proofs.Session.open.Tie as tie
 
@@ -9,11 +9,11 @@ refusal-requires : tie.Need-refusal-requires
 refusal-requires c κs = search needs
 
 returns : tie.Need-returns
-unfolding opening
+unfolding openedBy
 returns c = rw (← c .before .refusal .ensures, ne-eqb _ 0 (c .if1 .taken))
 
 returns-2 : tie.Need-returns-2
-unfolding opening
+unfolding openedBy
 returns-2 c = rw (← c .before .refusal .ensures, eq-eqb _ 0 (c .if1 .left))
 
 pub open-spec : {M : Type 1} → statement M

@@ -1,109 +1,65 @@
 -- `unit` meets its contract.
+use Prim.Native.Nat.{_<_}
 use mathlib.Core.Path.{refl}
 use denote.Ref.{now}
+use native.Mathlib.Omega.{arith}
 use borrow.Author.Needs.{needs}
-use Rattle.picture.specs.Session.{call}
-use Rattle.picture.proofs.Calls.{below, due-small, settings-fail, due-past, complete, not-due, due-read}
+use Rattle.settings.proofs.Passed.{passed}
+use Rattle.settings.proofs.Grid.{gridded, count-most}
+use Rattle.unit.specs.Luma.{unitsOf}
+use Rattle.picture.specs.State.{call}
+use Rattle.picture.specs.Session.{returned}
+use Rattle.picture.proofs.Calls.{not-accepted, found-due, state-refused, unit-read}
 use Rattle.picture.proofs.Session.unit.Statement.{statement}
 use Rattle.picture.proofs.Session.unit.Tie as tie
 
-unit-count-requires : tie.Need-unit-count-requires
-unit-count-requires c κs = search needs
+returned-requires : tie.Need-returned-requires
+returned-requires c κs = not-accepted _ _ _
 
-enum-known-count : tie.Need-enum-known-count
-enum-known-count c = search needs
+-- a due address is small
+due-small : (c : tie.After-enum-told) → c .before .before .before .before .before .before .before .args .self .due < 1048576
+due-small c =
+    let st = c .before .before in
+    let uc = st .before in
+    let a = uc .before .before .before .before .args in
+    let d = found-due (unitsOf (a .self .settings)) (a .self .due) (call (a .address) (now (a .flags)) (now (a .rows))) (uc .unit-count .ensures) (st .state-at .ensures) (c .enum-told .given .1) in
+    let m = count-most (gridded (passed (a .self .settings) (d .passed))) in
+    let l = d .below in
+    omega arith
 
-enum-told : tie.Need-enum-told
-enum-told c = search needs
-
-refused-requires : tie.Need-refused-requires
-refused-requires c κs = search needs
+returned-requires-2 : tie.Need-returned-requires-2
+returned-requires-2 c κs = λ count e. due-small (c .before .before .before .before)
 
 returns : tie.Need-returns
 returns c =
-    let told = c .before in
-    let counted = told .before .before in
-    let a = counted .before .before .before .before .args in
-    settings-fail (a .self) (counted .unit-count .ensures) (call (a .address) (now (a .flags)) (now (a .rows))) refl (told .enum-told .given .1) (c .refused .ensures)
-
-refused-requires-2 : tie.Need-refused-requires-2
-refused-requires-2 c κs = search needs
+    let n = c .before .before in
+    let st = n .before .before in
+    let uc = st .before in
+    let a = uc .before .before .before .before .args in
+    state-refused (unitsOf (a .self .settings)) (a .self .due) (call (a .address) (now (a .flags)) (now (a .rows))) (uc .unit-count .ensures) (st .state-at .ensures) (returned (a .self))
+    (n .number .given .1) (c .returned .ensures) refl
 
 returns-2 : tie.Need-returns-2
 returns-2 c =
-    let past = c .before in
-    let known = past .before .before in
-    let counted = known .before .before .before in
-    let a = counted .before .before .before .before .args in
-    due-past (a .self) (counted .unit-count .ensures) (call (a .address) (now (a .flags)) (now (a .rows))) refl (known .before .count .given .1) (past .if1 .taken) (c .refused2 .ensures)
-
-refused-requires-3 : tie.Need-refused-requires-3
-refused-requires-3 c κs = search needs
-
-returns-3 : tie.Need-returns-3
-returns-3 c =
-    let all = c .before in
-    let known = all .before .before .before .before in
-    let counted = known .before .before .before in
-    let a = counted .before .before .before .before .args in
-    complete (a .self) (counted .unit-count .ensures) (call (a .address) (now (a .flags)) (now (a .rows))) refl (known .before .count .given .1) (all .if2 .taken) (c .refused3 .ensures)
-
-refused-requires-4 : tie.Need-refused-requires-4
-refused-requires-4 c κs = search needs
-
-returns-4 : tie.Need-returns-4
-returns-4 c =
-    let other = c .before in
-    let some = other .before .before in
-    let within = some .before .before in
-    let known = within .before .before in
-    let counted = known .before .before .before in
-    let a = counted .before .before .before .before .args in
-    not-due (a .self) (counted .unit-count .ensures) (call (a .address) (now (a .flags)) (now (a .rows))) refl (known .before .count .given .1) (below (within .if1 .left) (some .if2 .left)) (other .if3 .taken) (c .refused4 .ensures)
-
-read-unit-requires : tie.Need-read-unit-requires
-read-unit-requires c κs = search needs
-
-answered-requires : tie.Need-answered-requires
-answered-requires c κs =
-    let due = c .before .before .before .before in
-    let some = due .before .before in
-    let within = some .before .before in
-    let known = within .before .before in
-    let counted = known .before .before .before in
-    let a = counted .before .before .before .before .args in
-    due-small (a .self) (counted .unit-count .ensures) (known .before .count .given .1) (below (within .if1 .left) (some .if2 .left))
-
-same-length : tie.Need-same-length
-same-length c = search needs
-
-returns-5 : tie.Need-returns-5
-returns-5 c =
-    let read = c .before .before .before in
-    let due = read .before .before in
-    let some = due .before .before in
-    let within = some .before .before in
-    let known = within .before .before in
-    let counted = known .before .before .before in
-    let a = counted .before .before .before .before .args in
-    due-read (a .self) (counted .unit-count .ensures) (call (a .address) (now (a .flags)) (now (a .rows))) (known .before .count .given .1) (below (within .if1 .left) (some .if2 .left)) (due .if3 .left) (read .read-unit .ensures) (c .answered .ensures)
+    let ru = c .before .before .before in
+    let d = ru .before .before in
+    let st = d .before .before in
+    let uc = st .before in
+    let a = uc .before .before .before .before .args in
+    unit-read (unitsOf (a .self .settings)) (a .self .due) (call (a .address) (now (a .flags)) (now (a .rows))) (uc .unit-count .ensures) (st .state-at .ensures) (returned (a .self))
+    (d .enum-told .given .1) (ru .read-unit .ensures) (c .returned2 .ensures)
 
 pub unit-spec : {M : Type 1} → statement M
 unit-spec =
     tie.close
     (tie.spec
-    unit-count-requires
-    enum-known-count
-    enum-told
-    refused-requires
+    (λ c κs. search needs)
+    (λ c κs. search needs)
+    (λ c. search needs)
+    returned-requires
+    (λ c. search needs)
+    (λ c κs. search needs)
+    returned-requires-2
     returns
-    refused-requires-2
-    returns-2
-    refused-requires-3
-    returns-3
-    refused-requires-4
-    returns-4
-    read-unit-requires
-    answered-requires
-    same-length
-    returns-5)
+    (λ c. search needs)
+    returns-2)
