@@ -1,51 +1,41 @@
 -- The first word of an answer is 0 exactly where the call is accepted.
-use mathlib.Core.Path.{_≡_, refl, sym, ap, _∙_}
-use mathlib.Core.Logic.{_↔_}
-use native.Mathlib.Decide.{ℕ-discrete}
-use borrow.Author.Tests.{eq-eqb, ne-eqb}
-use Rattle.settings.specs.declared.Settings.{Settings}
-use Rattle.settings.specs.declared.Count.the-variants as count
+use mathlib.Core.Path.{_≡_, refl}
+use mathlib.Core.Bool.{true}
 use Rattle.settings.specs.Checks.{settingsRefusal}
-use Rattle.settings.specs.Units.{unitCount, countOf, countNumber}
+use Rattle.settings.specs.Units.{countedBy, countNumber}
+use Rattle.settings.proofs.Numbers.{zero-picked}
+use Rattle.unit.specs.Units.{Units}
 use Rattle.unit.specs.Faults.{readNumbers, turnNumbers}
-use Rattle.unit.proofs.Decided.{zero-accepts}
+use Rattle.unit.proofs.Decided.{zero-accepts, reading-decides, turning-decides}
+use Rattle.unit.proofs.Luma.{luma-sound}
+use Rattle.unit.proofs.Numbers.{lacks}
+use Rattle.unit.proofs.Sound.{Sound}
 use Rattle.page.specs.PartitionPage.{pageNumbers}
 use Rattle.page.proofs.PartitionPage.{partition-page}
-use Rattle.picture.specs.declared.Opened.the-variants as opened
-use Rattle.picture.specs.Session.{opening, openedNumber}
-use Rattle.picture.specs.Demand1.{callNumbers}
-use Rattle.picture.proofs.Demand1.{opens-with, refused-with, demand1}
-use Rattle.colwythar.specs.Words.{Told}
+use Rattle.picture.specs.State.{openedBy}
+use Rattle.picture.specs.Session.{openedNumber}
+use Rattle.picture.specs.CallFaults.{callNumbers}
+use Rattle.picture.proofs.CallFaults.{call-decides}
+use Rattle.h265settings.specs.Checks as h265s
+use Rattle.h265settings.proofs.Sound.{h265-sound}
+use Rattle.h265.specs.Session as h265
+use Rattle.colwythar.specs.Words.{Tells, Told}
 
-module _ (s : Settings) where
-  opens : (openedNumber (opening s) ≡ 0) ↔ (opening s ≡ opened.Fresh (record { settings = s; due = 0 }))
-  opens = (λ z. go z (ℕ-discrete (settingsRefusal s) 0), λ e. ap (λ o. openedNumber o) e)
-    where
-      go : openedNumber (opening s) ≡ 0 → Dec (settingsRefusal s ≡ 0) → opening s ≡ opened.Fresh (record { settings = s; due = 0 })
-      go z (yes e) = opens-with s e
-      go z (no e) = absurd (e (ap (λ o. openedNumber o) (sym (refused-with s e)) ∙ z))
-
-  counted : settingsRefusal s ≡ 0 → countOf s ≡ count.Units (unitCount s)
-  unfolding countOf
-  counted e = rw (eq-eqb (settingsRefusal s) 0 e)
-
-  uncounted : ¬ (settingsRefusal s ≡ 0) → countOf s ≡ count.Refused (settingsRefusal s)
-  unfolding countOf
-  uncounted e = rw (ne-eqb (settingsRefusal s) 0 e)
-
-  counts : (countNumber (countOf s) ≡ 0) ↔ (countOf s ≡ count.Units (unitCount s))
-  counts = (λ z. go z (ℕ-discrete (settingsRefusal s) 0), λ e. ap (λ c. countNumber c) e)
-    where
-      go : countNumber (countOf s) ≡ 0 → Dec (settingsRefusal s ≡ 0) → countOf s ≡ count.Units (unitCount s)
-      go z (yes e) = counted e
-      go z (no e) = absurd (e (ap (λ c. countNumber c) (sym (uncounted e)) ∙ z))
+tells : {us : Units} → Sound us → lacks 0 (readNumbers (us .numbers)) ≡ true → lacks 0 (turnNumbers (us .numbers)) ≡ true → Tells us
+unfolding countedBy
+tells {us} law r t = record {
+  reads = λ a flags buffer. zero-accepts (readNumbers (us .numbers)) r _ (reading-decides law a flags buffer .uses);
+  turns = λ a bytes small buffer. zero-accepts (turnNumbers (us .numbers)) t _ (turning-decides law a bytes small buffer .uses);
+  calls = λ due c. zero-accepts callNumbers refl _ (call-decides law due c (λ d. d) .uses);
+  counts = zero-picked countNumber _ _ (us .refusal) refl refl;
+}
 
 pub told : Told
+unfolding openedBy
 told = record {
-  reads = λ s a flags buffer. zero-accepts readNumbers refl _ (demand1 .reads s a flags buffer .uses);
-  turns = λ s a bytes small buffer. zero-accepts turnNumbers refl _ (demand1 .turns s a bytes small buffer .uses);
+  units = λ s. tells (luma-sound s) refl refl;
   pages = λ s a bytes small page. zero-accepts pageNumbers refl _ (partition-page .decided s a bytes small page .uses);
-  calls = λ t c. zero-accepts callNumbers refl _ (demand1 .calls t c .uses);
-  opens = opens;
-  counts = counts;
+  opens = λ s. zero-picked openedNumber _ _ (settingsRefusal s) refl refl;
+  h265-units = λ s. tells (h265-sound s) refl refl;
+  h265-opens = λ s. zero-picked h265.openedNumber _ _ (h265s.settingsRefusal s) refl refl;
 }

@@ -6,67 +6,74 @@ use mathlib.Core.Logic.{_↔_}
 use Rattle.settings.specs.declared.Count.{Count}
 use Rattle.settings.specs.declared.Count.the-variants as count
 use Rattle.settings.specs.declared.Settings.{Settings}
-use Rattle.settings.specs.Units.{unitCount, countOf, countNumber}
-use Rattle.settings.specs.Words.{settingsIn}
+use Rattle.settings.specs.Units.{countedBy, countNumber}
 use Rattle.unit.specs.declared.Answer.{Answer}
 use Rattle.unit.specs.Answers.{numberOf, valueOf, ZeroIsAccepted, Outcome}
-use Rattle.unit.specs.Reader.{readUnit}
-use Rattle.unit.specs.Writer.{writeFlags}
+use Rattle.unit.specs.Units.{Units}
+use Rattle.unit.specs.Luma.{unitsOf}
+use Rattle.unit.specs.Reader.{readIn}
+use Rattle.unit.specs.Writer.{writeIn}
 use Rattle.unit.specs.Exactly.{Bytes}
 use Rattle.page.specs.Page.{writePage}
-use Rattle.picture.specs.declared.Session.{Session}
 use Rattle.picture.specs.declared.Opened.{Opened}
 use Rattle.picture.specs.declared.Opened.the-variants as opened
-use Rattle.picture.specs.Session.{opening, openedNumber, Call, unitCall, following}
-
--- a session is its settings and the address due
-abbrev pub sessionIn : List ℕ → ℕ → Session
-sessionIn words due = record { settings = settingsIn words; due = due }
+use Rattle.picture.specs.State.{Call, callIn, nextDue}
+use Rattle.picture.specs.Session.{opening, openedNumber}
+use Rattle.h265settings.specs.declared.Settings as h265s
+use Rattle.h265settings.specs.Units as h265u
+use Rattle.h265.specs.declared.session.Opened as h265o
+use Rattle.h265.specs.declared.session.Opened.the-variants as h265opened
+use Rattle.h265.specs.Session as h265
 
 -- an answer is two words: 0 where accepted, else the number; the count answered, or the place
 abbrev pub answerWords : Answer → List ℕ
 answerWords answer = numberOf answer ∷ valueOf answer ∷ []
 
--- an opening: its number, and 0
-abbrev pub openedWords : Opened → List ℕ
-openedWords opened = openedNumber opened ∷ 0 ∷ []
-
--- the address due after it: that of the fresh session, or as it was
+-- the address due after an opening, H.266's or H.265's: that of the fresh session, or as it was
 abbrev pub dueAfter : Opened → ℕ → ℕ
 dueAfter (opened.Fresh t) due = t .due
 dueAfter (opened.Refused number) due = due
 
+abbrev pub h265DueAfter : h265o.Opened → ℕ → ℕ
+h265DueAfter (h265opened.Fresh t) due = t .due
+h265DueAfter (h265opened.Refused number) due = due
+
 -- a count of units: 0 and the count, or the number of the refusal and 0
-abbrev pub unitsOf : Count → ℕ
-unitsOf (count.Units n) = n
-unitsOf (count.Refused number) = 0
+abbrev pub unitsIn : Count → ℕ
+unitsIn (count.Units n) = n
+unitsIn (count.Refused number) = 0
 
 abbrev pub countWords : Count → List ℕ
-countWords c = countNumber c ∷ unitsOf c ∷ []
+countWords c = countNumber c ∷ unitsIn c ∷ []
 
--- the words of an opening, and the address due before and after it
-pub record OpensTo (opened : Opened) (due next : ℕ) (answer : List ℕ) : Type 0 where
-  pub answers : answer ≡ openedWords opened
-  pub moves : next ≡ dueAfter opened due
+-- the words of an opening, its number and 0, and the address due after it
+pub record OpensTo (number due next : ℕ) (answer : List ℕ) : Type 0 where
+  pub answers : answer ≡ number ∷ 0 ∷ []
+  pub moves : next ≡ due
 
 -- the words of an outcome's answer, and its buffer
 pub record Leaves (o : Outcome) (answer left : List ℕ) : Type 0 where
   pub answers : answer ≡ answerWords (o .answer)
   pub leaves : left ≡ o .buffer
 
--- a unit call: its outcome, and the address due in the session that it yields
-pub record Moves (t : Session) (c : Call) (due : ℕ) (answer left : List ℕ) : Type 0 where
-  pub next : due ≡ following t (unitCall t c .answer) .due
-  pub outcome : Leaves (unitCall t c) answer left
+-- a unit call on a session, which is its settings' units and the address due: its outcome, and the address due after it
+pub record Moves (us : Units) (due : ℕ) (c : Call) (after : ℕ) (answer left : List ℕ) : Type 0 where
+  pub next : after ≡ nextDue due (callIn us due c .answer)
+  pub outcome : Leaves (callIn us due c) answer left
 
 -- An accepted answer and a refusal never have the same words: the first word of what a function answers is 0 exactly where
 -- the call is accepted.
+pub record Tells (us : Units) : Type 0 where
+  pub reads : (a : ℕ) (flags buffer : List ℕ) → ZeroIsAccepted (readIn us a flags buffer .answer)
+  pub turns : (a : ℕ) (bytes : List ℕ) → Bytes bytes → (buffer : List ℕ) → ZeroIsAccepted (writeIn us a bytes buffer .answer)
+  pub calls : (due : ℕ) (c : Call) → ZeroIsAccepted (callIn us due c .answer)
+  pub counts : (countNumber (countedBy (us .refusal) (us .count)) ≡ 0) ↔ (countedBy (us .refusal) (us .count) ≡ count.Units (us .count))
+
 pub record Told : Type 0 where
-  pub reads : (s : Settings) (a : ℕ) (flags buffer : List ℕ) → ZeroIsAccepted (readUnit s a flags buffer .answer)
-  pub turns : (s : Settings) (a : ℕ) (bytes : List ℕ) → Bytes bytes → (buffer : List ℕ)
-      → ZeroIsAccepted (writeFlags s a bytes buffer .answer)
+  pub units : (s : Settings) → Tells (unitsOf s)
   pub pages : (s : Settings) (a : ℕ) (bytes : List ℕ) → Bytes bytes → (page : List ℕ)
       → ZeroIsAccepted (writePage s a bytes page .answer)
-  pub calls : (t : Session) (c : Call) → ZeroIsAccepted (unitCall t c .answer)
   pub opens : (s : Settings) → (openedNumber (opening s) ≡ 0) ↔ (opening s ≡ opened.Fresh (record { settings = s; due = 0 }))
-  pub counts : (s : Settings) → (countNumber (countOf s) ≡ 0) ↔ (countOf s ≡ count.Units (unitCount s))
+  pub h265-units : (s : h265s.Settings) → Tells (h265u.unitsOf s)
+  pub h265-opens : (s : h265s.Settings)
+      → (h265.openedNumber (h265.opening s) ≡ 0) ↔ (h265.opening s ≡ h265opened.Fresh (record { settings = s; due = 0 }))

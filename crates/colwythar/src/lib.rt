@@ -1,5 +1,7 @@
 // The C interface: the functions of the static library, declared in include/colwythar.h. A slice is a pointer and then
 // a length; settings, answers and the due address are behind pointers.
+mod h265_calls;
+
 use picture::Opened;
 use picture::Session;
 use settings::Count;
@@ -7,13 +9,15 @@ use unit::Answer;
 ghost use mathlib.Core.Path.{_≡_};
 ghost use Rattle.settings.specs.Units.{countOf, countNumber};
 ghost use Rattle.settings.specs.Words.{settingsIn};
+ghost use Rattle.unit.specs.Luma.{unitsOf};
 ghost use Rattle.unit.specs.Reader.{readUnit};
 ghost use Rattle.unit.specs.Writer.{writeFlags};
 ghost use Rattle.page.specs.Page.{writePage};
-ghost use Rattle.picture.specs.Session.{opening, call};
-ghost use Rattle.colwythar.specs.Words.{answerWords, dueAfter, unitsOf, countWords, sessionIn, Leaves, OpensTo, Moves};
+ghost use Rattle.picture.specs.State.{call};
+ghost use Rattle.picture.specs.Session.{opening, openedNumber};
+ghost use Rattle.colwythar.specs.Words.{answerWords, dueAfter, unitsIn, countWords, Leaves, OpensTo, Moves};
 
-fn put_answer(a: Answer, answer: &mut [u64; 2])
+pub(crate) fn put_answer(a: Answer, answer: &mut [u64; 2])
     ensures { λ _. ⌜ now (answer .exit) ≡ answerWords a ⌝ }
 {
     *answer = [a.number() as u64, a.value() as u64];
@@ -82,7 +86,7 @@ fn due_after(opened: Opened, due: u64) -> u64
 // accepted opening sets.
 #[no_mangle]
 pub extern "C" fn colwythar_open(settings: &[u32; 8], due: &mut u64, answer: &mut [u64; 2])
-    ensures { λ _. ⌜ OpensTo (opening (settingsIn (now (settings .entry)))) (now (due .entry)) (now (due .exit)) (now (answer .exit)) ⌝ }
+    ensures { λ _. ⌜ OpensTo (openedNumber (opening (settingsIn (now (settings .entry))))) (dueAfter (opening (settingsIn (now (settings .entry)))) (now (due .entry))) (now (due .exit)) (now (answer .exit)) ⌝ }
 {
     let opened = Session::open(settings::from_words(settings));
     *due = due_after(opened, *due);
@@ -90,7 +94,7 @@ pub extern "C" fn colwythar_open(settings: &[u32; 8], due: &mut u64, answer: &mu
 }
 
 // The number of a count of units: 0, or the refusal's.
-fn number_of(count: Count) -> u64
+pub(crate) fn number_of(count: Count) -> u64
     ensures { λ r. ⌜ r ≡ countNumber count ⌝ }
 {
     match count {
@@ -100,8 +104,8 @@ fn number_of(count: Count) -> u64
 }
 
 // Its units, 0 where it is a refusal.
-fn units_of(count: Count) -> u64
-    ensures { λ r. ⌜ r ≡ unitsOf count ⌝ }
+pub(crate) fn units_of(count: Count) -> u64
+    ensures { λ r. ⌜ r ≡ unitsIn count ⌝ }
 {
     match count {
         Count::Units(n) => n as u64,
@@ -129,7 +133,7 @@ pub extern "C" fn colwythar_unit(
     rows: &mut [u8],
     answer: &mut [u64; 2],
 )
-    ensures { λ _. ⌜ Moves (sessionIn (now (settings .entry)) (now (due .entry))) (call address (now (flags .entry)) (now (rows .entry))) (now (due .exit)) (now (answer .exit)) (now (rows .exit)) ⌝ }
+    ensures { λ _. ⌜ Moves (unitsOf (settingsIn (now (settings .entry)))) (now (due .entry)) (call address (now (flags .entry)) (now (rows .entry))) (now (due .exit)) (now (answer .exit)) (now (rows .exit)) ⌝ }
 {
     let session = Session {
         settings: settings::from_words(settings),

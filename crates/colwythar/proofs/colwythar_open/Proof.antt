@@ -1,6 +1,8 @@
 -- `colwythar_open` meets its contract.
 use denote.Ref.{now}
 use borrow.Author.Needs.{needs}
+use Rattle.picture.specs.Session.{opening, openedNumber}
+use Rattle.colwythar.specs.Words.{dueAfter}
 use Rattle.colwythar.proofs.Passing.{opened-to}
 use Rattle.colwythar.proofs.colwythar_open.Statement.{statement}
 use Rattle.colwythar.proofs.colwythar_open.Tie as tie
@@ -27,7 +29,7 @@ returns c =
     let known = due .before .before in
     let set = known .before in
     let a = set .before .args in
-    opened-to (now (a .settings)) (now (a .due)) (set .from-words .ensures) (known .«open» .ensures) (number .number .ensures) (due .due-after .ensures)
+    opened-to (set .from-words .ensures) opening openedNumber (λ o. dueAfter o (now (a .due))) (known .«open» .ensures) (number .number .ensures) (due .due-after .ensures)
 
 pub colwythar-open-spec : {M : Type 1} → statement M
 colwythar-open-spec =

@@ -23,7 +23,7 @@ returns c =
     let printed = c .before .before .before .before in
     let set = printed .before .before in
     let a = set .before .before .before .args in
-    passed-on (now (a .settings)) (set .from-words .ensures) (λ s. writePage s (a .address) (now (a .rows)) (now (a .page))) (printed .write-page .ensures) (c .put-answer .ensures)
+    passed-on (set .from-words .ensures) (λ s. writePage s (a .address) (now (a .rows)) (now (a .page))) (printed .write-page .ensures) (c .put-answer .ensures)
 
 pub colwythar-page-spec : {M : Type 1} → statement M
 colwythar-page-spec =

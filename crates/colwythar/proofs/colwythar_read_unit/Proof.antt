@@ -23,7 +23,7 @@ returns c =
     let read = c .before .before .before .before in
     let set = read .before .before in
     let a = set .before .before .before .args in
-    passed-on (now (a .settings)) (set .from-words .ensures) (λ s. readUnit s (a .address) (now (a .flags)) (now (a .rows))) (read .read-unit .ensures) (c .put-answer .ensures)
+    passed-on (set .from-words .ensures) (λ s. readUnit s (a .address) (now (a .flags)) (now (a .rows))) (read .read-unit .ensures) (c .put-answer .ensures)
 
 pub colwythar-read-unit-spec : {M : Type 1} → statement M
 colwythar-read-unit-spec =

@@ -1,6 +1,9 @@
 -- `colwythar_unit` meets its contract.
-use denote.Ref.{now}
+use mathlib.Core.Path.{refl}
 use borrow.Author.Needs.{needs}
+use Rattle.unit.specs.Luma.{unitsOf}
+use Rattle.picture.specs.declared.Called.{Called}
+use Rattle.picture.specs.Session.{returned}
 use Rattle.colwythar.proofs.Passing.{moved-on}
 use Rattle.colwythar.proofs.colwythar_unit.Statement.{statement}
 use Rattle.colwythar.proofs.colwythar_unit.Tie as tie
@@ -21,8 +24,7 @@ returns : tie.Need-returns
 returns c =
     let called = c .before .before .before .before .before in
     let set = called .before .before .before in
-    let a = set .before .before .before .args in
-    moved-on (now (a .settings)) (set .from-words .ensures) (called .unit .ensures) (c .put-answer .ensures)
+    moved-on (set .from-words .ensures) (λ s. unitsOf s) (λ s due. returned (record { settings = s; due = due })) (λ (r : Called). r .session .due) (λ (r : Called). r .answer) (λ x y. (refl, refl)) (called .unit .ensures) (c .put-answer .ensures)
 
 pub colwythar-unit-spec : {M : Type 1} → statement M
 colwythar-unit-spec =

@@ -1,6 +1,6 @@
 -- `colwythar_unit_count` meets its contract.
-use denote.Ref.{now}
 use borrow.Author.Needs.{needs}
+use Rattle.settings.specs.Units.{countOf}
 use Rattle.colwythar.proofs.Passing.{counted-to}
 use Rattle.colwythar.proofs.colwythar_unit_count.Statement.{statement}
 use Rattle.colwythar.proofs.colwythar_unit_count.Tie as tie
@@ -23,8 +23,7 @@ returns c =
     let number = units .before in
     let counted = number .before in
     let set = counted .before in
-    let a = set .before .args in
-    counted-to (now (a .settings)) (set .from-words .ensures) (counted .unit-count .ensures) (number .number-of .ensures) (units .units-of .ensures)
+    counted-to (set .from-words .ensures) countOf (counted .unit-count .ensures) (number .number-of .ensures) (units .units-of .ensures)
 
 pub colwythar-unit-count-spec : {M : Type 1} → statement M
 colwythar-unit-count-spec =

@@ -23,7 +23,7 @@ returns c =
     let turned = c .before .before .before .before in
     let set = turned .before .before in
     let a = set .before .before .before .args in
-    passed-on (now (a .settings)) (set .from-words .ensures) (λ s. writeFlags s (a .address) (now (a .rows)) (now (a .flags))) (turned .write-flags .ensures) (c .put-answer .ensures)
+    passed-on (set .from-words .ensures) (λ s. writeFlags s (a .address) (now (a .rows)) (now (a .flags))) (turned .write-flags .ensures) (c .put-answer .ensures)
 
 pub colwythar-write-flags-spec : {M : Type 1} → statement M
 colwythar-write-flags-spec =

@@ -1,0 +1,3 @@
+pub mod Calls
+pub mod Session
+pub mod Demand3

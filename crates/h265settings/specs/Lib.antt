@@ -1,0 +1,4 @@
+pub mod Checks
+pub mod Faults
+pub mod Units
+pub mod Words
