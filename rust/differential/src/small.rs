@@ -2,8 +2,8 @@
 
 use std::collections::BTreeSet;
 
-use h266::brute::{all_trees, Beginnings, Trees};
 use h266::Settings;
+use samples::brute::{all_trees, Beginnings, Trees};
 use samples::{damage, Rng};
 
 use crate::calls::ROOM;

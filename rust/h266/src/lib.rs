@@ -29,7 +29,6 @@
 
 mod allowed;
 mod board;
-pub mod brute;
 pub mod check;
 mod join;
 mod node;

@@ -3,12 +3,12 @@
 use crate::Rng;
 
 /// A power of two from `least` to `most`, both powers of two.
-fn side(rng: &mut Rng, least: u32, most: u32) -> u32 {
+pub(crate) fn side(rng: &mut Rng, least: u32, most: u32) -> u32 {
     least << rng.below_u32(most.ilog2() - least.ilog2() + 1)
 }
 
 /// A picture side: mostly a few units and every kind of rest, now and then a very long one.
-fn picture_side(rng: &mut Rng, ctu: u32, step: u32) -> u32 {
+pub(crate) fn picture_side(rng: &mut Rng, ctu: u32, step: u32) -> u32 {
     if rng.percent(3) {
         return rng.pick(&[16_384, 16_384 - step, 16_384 - 64, 8_192 + step]);
     }
@@ -39,12 +39,12 @@ pub fn valid_with_ctu(rng: &mut Rng, ctu: u32) -> h266::Settings {
 }
 
 /// A number that is no power of two within the bounds.
-fn bad_side(rng: &mut Rng, least: u32, most: u32) -> u32 {
+pub(crate) fn bad_side(rng: &mut Rng, least: u32, most: u32) -> u32 {
     rng.pick(&[0, 1, least / 2, most * 2, least + 1, most - 1, 3 * least, 1 << 31, u32::MAX])
 }
 
 /// A number that is no picture side.
-fn bad_picture_side(rng: &mut Rng, step: u32) -> u32 {
+pub(crate) fn bad_picture_side(rng: &mut Rng, step: u32) -> u32 {
     rng.pick(&[0, 4, step + 4, 3 * step / 2, 16_384 + step, 32_768, 65_536, u32::MAX, 1 << 31])
 }
 

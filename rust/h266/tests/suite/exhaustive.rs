@@ -1,7 +1,7 @@
 //! Small units: every tree, and tables that no tree gives.
 
-use h266::brute::{all_trees, Beginnings, Trees};
 use h266::{read_unit, write_flags, Params, Settings};
+use samples::brute::{all_trees, Beginnings, Trees};
 use samples::{damage, settings, Rng};
 
 const LIMIT: usize = 2_000;

@@ -1,57 +1,12 @@
 //! Where tables stop being trees: the search beside plain comparison with every table of a unit.
 
-use h266::brute::{all_trees, Beginnings, Trees};
 use h266::{read_unit, write_flags, Params, Settings};
+use samples::brute::{all_trees, tables, Trees};
+use samples::near::Near;
 use samples::{broken, small, trees, Rng, Style};
 
 /// The most trees of a unit here.
 const LIMIT: usize = 100;
-
-/// One unit with all its trees, and how often each number was answered.
-struct Unit<'a> {
-    settings: Settings,
-    address: u64,
-    trees: &'a Trees,
-    beginnings: Beginnings<'a>,
-    answers: &'a mut [usize; 29],
-}
-
-impl Unit<'_> {
-    /// A table of whole rows, accepted exactly where it is one of the unit's.
-    fn check(&mut self, rows: &[u8]) {
-        let expected = match self.trees.get(rows) {
-            Some(flags) => (0, flags.len() as u64),
-            None => self.beginnings.refusal(rows),
-        };
-        let answer = write_flags(&self.settings, self.address, rows, &mut [0; 8192]);
-        assert_eq!(answer, expected, "{:?}, unit {}, {rows:?}", self.settings, self.address);
-        self.answers[answer.0 as usize] += 1;
-    }
-
-    /// Everything that a small change makes of a table, and of some of these a second one.
-    fn check_around(&mut self, rng: &mut Rng, rows: &[u8]) {
-        let first = [broken::cut(rows), broken::longer(rows), broken::moved(rows)].concat();
-        let changed = (0..rows.len() / 8).flat_map(|row| broken::changed(rows, row));
-        for table in first.into_iter().chain(changed) {
-            self.check(&table);
-            if !table.is_empty() && rng.percent(2) {
-                let row = rng.below(table.len() / 8);
-                let again = [broken::longer(&table), broken::changed(&table, row)].concat();
-                again.iter().for_each(|table| self.check(table));
-            }
-        }
-    }
-
-    /// The first rows of a table, and after them the last of another or junk.
-    fn check_mixed(&mut self, rng: &mut Rng, rows: &[u8], other: &[u8]) {
-        for end in (0..=rows.len()).step_by(8) {
-            let rest = other.get(end..).unwrap_or_default();
-            self.check(&[&rows[..end], rest].concat());
-            let junk = 8 * (1 + rng.below(3));
-            self.check(&[&rows[..end], &rng.bytes(junk)].concat());
-        }
-    }
-}
 
 /// All trees of a unit, where they are few.
 fn few_trees(settings: &Settings, address: u64) -> Option<Trees> {
@@ -91,18 +46,18 @@ fn check_unit(
     address: u64,
     trees: &Trees,
 ) {
-    let beginnings = Beginnings::of(trees);
-    let mut unit = Unit { settings, address, trees, beginnings, answers };
+    let write = |rows: &[u8]| write_flags(&settings, address, rows, &mut [0; 8192]);
+    let mut near = Near::new(trees, write);
     // In order, so that each run sees the same tables.
-    let mut tables: Vec<_> = trees.keys().collect();
-    tables.sort();
+    let tables = tables(trees);
     for rows in &tables {
         assert!(broken::cut(rows).iter().all(|cut| !trees.contains_key(cut)), "{rows:?}");
-        unit.check(rows);
-        unit.check_around(rng, rows);
+        near.check(rows);
+        near.check_around(rng, rows);
         let other = rng.pick(&tables);
-        unit.check_mixed(rng, rows, other);
+        near.check_mixed(rng, rows, other);
     }
+    near.add_to(answers);
 }
 
 /// A unit of the largest side in blocks of 4 by 4: 1,024 rows, by random cuts or by quads alone.

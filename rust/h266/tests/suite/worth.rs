@@ -1,7 +1,7 @@
 //! How many flags a unit can have: by its CTU side, and by its rows.
 
-use h266::brute::all_trees;
 use h266::{greatest_worth, read_unit, Params, Settings};
+use samples::brute::all_trees;
 
 const SIDES: [u32; 6] = [4, 8, 16, 32, 64, 128];
 

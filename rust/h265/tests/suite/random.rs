@@ -1,0 +1,97 @@
+//! Random trees: covering, the way back, and refusals that leave the buffer.
+
+use h265::{read_unit, write_flags, Params, Settings};
+use samples::{damage, quads, Rng};
+
+const ROOM: usize = 600;
+
+struct Case {
+    settings: Settings,
+    address: u64,
+    flags: Vec<u8>,
+    rows: Vec<u8>,
+}
+
+/// A random unit and its rows.
+fn case(rng: &mut Rng) -> Case {
+    let settings = quads::valid(rng);
+    let address = rng.draw() % Params::new(&settings).expect("valid settings").unit_count();
+    let flags = quads::flags(&settings, address, rng);
+    let mut rows = vec![0; ROOM];
+    let (number, count) = read_unit(&settings, address, &flags, &mut rows);
+    assert_eq!(number, 0, "{settings:?} unit {address} {flags:?}");
+    rows.truncate(8 * count as usize);
+    Case { settings, address, flags, rows }
+}
+
+/// Every smallest block of the unit inside the picture lies in exactly one row, and no other does.
+fn assert_covered(case: &Case) {
+    let [ctu, smallest, width, height] = case.settings;
+    let across = u64::from(width.div_ceil(ctu));
+    let [left, top] = [case.address % across, case.address / across].map(|n| n as u32 * ctu);
+    for (x, y) in (0..ctu / smallest).flat_map(|i| (0..ctu / smallest).map(move |j| (i, j))) {
+        let (x, y) = (left + x * smallest, top + y * smallest);
+        let has = |row: &&[u8]| {
+            let corner = |low: u8, high: u8| u32::from(u16::from_le_bytes([low, high]));
+            let (x0, y0) = (corner(row[0], row[1]), corner(row[2], row[3]));
+            (x0..x0 + (1 << row[4])).contains(&x) && (y0..y0 + (1 << row[5])).contains(&y)
+        };
+        let times = case.rows.chunks(8).filter(has).count();
+        assert_eq!(times, usize::from(x < width && y < height), "{:?}: {x}, {y}", case.settings);
+    }
+}
+
+#[test]
+fn every_block_in_one_row_and_back() {
+    let mut rng = Rng::new(51);
+    for _ in 0..20_000 {
+        let case = case(&mut rng);
+        assert_covered(&case);
+        let mut flags = vec![0xa5; case.flags.len() + rng.below(3)];
+        let answer = write_flags(&case.settings, case.address, &case.rows, &mut flags);
+        assert_eq!(answer, (0, case.flags.len() as u64), "{:?} {:?}", case.settings, case.flags);
+        assert_eq!(flags[..case.flags.len()], case.flags);
+        assert!(flags[case.flags.len()..].iter().all(|&byte| byte == 0xa5));
+    }
+}
+
+/// Whatever the way back accepts must read to the same rows again.
+#[test]
+fn damaged_tables_are_refused_or_read_back() {
+    let mut rng = Rng::new(52);
+    let mut refused = 0;
+    for _ in 0..20_000 {
+        let mut case = case(&mut rng);
+        if rng.percent(60) {
+            damage::rows(&mut rng, &mut case.rows);
+        } else {
+            case.rows = quads::lawless_rows(&case.settings, case.address, &mut rng);
+        }
+        let mut flags = vec![0xa5; ROOM];
+        let (number, count) = write_flags(&case.settings, case.address, &case.rows, &mut flags);
+        let accepted = number == 0;
+        let written = if accepted { count as usize } else { 0 };
+        assert!(flags[written..].iter().all(|&byte| byte == 0xa5));
+        if accepted {
+            let mut rows = vec![0; case.rows.len()];
+            read_unit(&case.settings, case.address, &flags[..written], &mut rows);
+            assert_eq!(rows, case.rows);
+        }
+        refused += usize::from(!accepted);
+    }
+    assert!((12_000..19_000).contains(&refused), "{refused} refused");
+}
+
+#[test]
+fn refused_readings_leave_the_buffer() {
+    let mut rng = Rng::new(53);
+    for _ in 0..10_000 {
+        let mut case = case(&mut rng);
+        damage::flags(&mut rng, &mut case.flags);
+        let before = rng.bytes(ROOM);
+        let mut rows = before.clone();
+        let (number, count) = read_unit(&case.settings, case.address, &case.flags, &mut rows);
+        let written = if number == 0 { 8 * count as usize } else { 0 };
+        assert_eq!(rows[written..], before[written..]);
+    }
+}
