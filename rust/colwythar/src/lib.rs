@@ -1,4 +1,4 @@
-//! Safe wrapper of Colwythar, a proved engine for the coding tree of H.266.
+//! Safe wrapper of Colwythar, a proved engine for the coding tree of H.266, and of H.265.
 //!
 //! The engine turns the split flags of one unit into its table of coding blocks, and a table back
 //! into the flags. Everything that it refuses has a number and a place; a refused call leaves
@@ -26,12 +26,14 @@
 //! ```
 //!
 //! Single units need no session: [`read_unit`] and [`write_flags`], and [`page()`], which prints the
-//! rows as lines of text.
+//! rows as lines of text. Pictures in H.265 have settings of their own: [`h265`].
 //!
 //! The static library is looked for in the folder `COLWYTHAR_LIB_DIR`, else in the repository's
 //! `target/staticlib`, where the build script has it proved and built anew whenever its sources change.
 #![warn(missing_docs)]
 
+mod coding;
+pub mod h265;
 mod page;
 pub mod raw;
 mod refusal;
@@ -39,13 +41,14 @@ mod row;
 mod session;
 mod settings;
 
+pub use coding::Coding;
 pub use page::{page, page_text, LINE_BYTES, MAX_PAGE_BYTES};
 pub use refusal::Refusal;
 pub use row::{rows, Row};
 pub use session::Session;
 pub use settings::Settings;
 
-/// No unit has more flags: 110 with CTU side 32, 446 with 64 and 1,786 with 128
+/// No unit has more flags: in H.266, 110 with CTU side 32, 446 with 64 and 1,786 with 128
 /// ([`Settings::max_flags`]).
 pub const MAX_FLAGS: usize = 1_786;
 
@@ -90,20 +93,20 @@ pub const fn max_flags_of_rows(rows: usize) -> usize {
 ///
 /// # Errors
 ///
-/// Numbers 1 to 14.
+/// Numbers 1 to 14; for H.265 34, 35, 7, 8 and 10 to 14.
 pub fn read_unit(
-    settings: &Settings,
+    settings: &impl Coding,
     address: u64,
     flags: &[u8],
     rows: &mut [u8],
 ) -> Result<usize, Refusal> {
-    Refusal::check(raw::read_unit(&settings.to_array(), address, flags, rows))
+    Refusal::check(settings.read_unit(address, flags, rows))
 }
 
 /// Writes the flags that give exactly these rows and answers how many.
 ///
-/// Bytes of `flags` past the answer stay as they were. A buffer of
-/// [`max_flags_of_rows`] or [`Settings::max_flags`] bytes is never too short.
+/// Bytes of `flags` past the answer stay as they were. A buffer of [`max_flags_of_rows`] or
+/// [`MAX_FLAGS`] bytes is never too short, for H.266 one of [`Settings::max_flags`] neither.
 ///
 /// ```
 /// use colwythar::{write_flags, Settings};
@@ -118,13 +121,13 @@ pub fn read_unit(
 ///
 /// # Errors
 ///
-/// Numbers 1 to 10, 15, 27, 28, 16 and 17. Those for rows that no flags give are explained at
-/// [`Refusal`].
+/// Numbers 1 to 10, 15, 27, 28, 16 and 17; for H.265 34, 35, 7 and 8 in place of 1 to 9. Those for rows
+/// that no flags give are explained at [`Refusal`].
 pub fn write_flags(
-    settings: &Settings,
+    settings: &impl Coding,
     address: u64,
     rows: &[u8],
     flags: &mut [u8],
 ) -> Result<usize, Refusal> {
-    Refusal::check(raw::write_flags(&settings.to_array(), address, rows, flags))
+    Refusal::check(settings.write_flags(address, rows, flags))
 }

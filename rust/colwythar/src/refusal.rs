@@ -4,7 +4,8 @@ use std::error::Error;
 use std::fmt;
 
 /// A refusal: its number and its place, 0 where the number has none. In its sentence, M is the
-/// greatest depth of binary and ternary splits.
+/// greatest depth of binary and ternary splits, and MinCb the smallest side of a coding block; in H.265
+/// that is 8 or more, so the larger of 8 and MinCb is MinCb.
 ///
 /// ```
 /// use colwythar::Refusal;
@@ -45,7 +46,7 @@ use std::fmt;
 /// ```
 #[derive(Clone, Copy, Debug, PartialEq, Eq, Hash)]
 pub struct Refusal {
-    /// 1 to 17, 20 to 23, 27 or 28.
+    /// 1 to 17, 20 to 23, 27, 28, 34 or 35.
     pub number: u64,
     /// Where or how much, according to the number.
     pub place: u64,
@@ -77,6 +78,8 @@ impl Refusal {
             10 => "the picture has no such unit",
             20 => "the picture is complete",
             22 => "this is no session that an opening or an accepted unit yielded",
+            34 => "the CTU side is not 16, 32 or 64",
+            35 => "MinCb is no power of two from 8 to the CTU side",
             _ => "the engine gave an unknown number",
         }
     }

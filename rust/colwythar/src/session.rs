@@ -1,8 +1,10 @@
 //! The picture session.
 
-use crate::{raw, Refusal, Settings};
+use crate::{coding, Coding, Refusal, Settings};
 
 /// A picture being read: its settings and the address that is due.
+///
+/// The settings are those of H.266, or of H.265 ([`h265::Session`](crate::h265::Session)).
 ///
 /// ```
 /// use colwythar::{Session, Settings};
@@ -19,22 +21,22 @@ use crate::{raw, Refusal, Settings};
 /// # Ok::<(), colwythar::Refusal>(())
 /// ```
 #[derive(Clone, Debug, PartialEq, Eq)]
-pub struct Session {
-    settings: Settings,
+pub struct Session<S = Settings> {
+    settings: S,
     due: u64,
     count: u64,
 }
 
-impl Session {
+impl<S: Coding> Session<S> {
     /// Opens a session; unit 0 is then due.
     ///
     /// # Errors
     ///
-    /// Numbers 1 to 9.
-    pub fn open(settings: Settings) -> Result<Self, Refusal> {
-        let count = settings.unit_count()?;
+    /// Numbers 1 to 9; for H.265 34, 35, 7 and 8.
+    pub fn open(settings: S) -> Result<Self, Refusal> {
+        let count = coding::unit_count(&settings)?;
         let mut due = 0;
-        Refusal::check(raw::open(&settings.to_array(), &mut due))?;
+        Refusal::check(settings.open(&mut due))?;
         Ok(Self { settings, due, count })
     }
 
@@ -46,8 +48,7 @@ impl Session {
     /// Numbers 20 and 21, and 11 to 14.
     #[inline]
     pub fn unit(&mut self, address: u64, flags: &[u8], rows: &mut [u8]) -> Result<usize, Refusal> {
-        let settings = self.settings.to_array();
-        Refusal::check(raw::unit(&settings, &mut self.due, address, flags, rows))
+        Refusal::check(self.settings.unit(&mut self.due, address, flags, rows))
     }
 
     /// The address that is due; the unit count once the picture is complete.
@@ -56,7 +57,7 @@ impl Session {
     }
 
     /// The settings given at the opening.
-    pub fn settings(&self) -> &Settings {
+    pub fn settings(&self) -> &S {
         &self.settings
     }
 

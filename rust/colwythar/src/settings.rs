@@ -1,6 +1,6 @@
-//! The eight settings of a picture.
+//! The eight settings of a picture in H.266.
 
-use crate::{raw, Refusal, MAX_FLAGS};
+use crate::{coding, Refusal, MAX_FLAGS};
 
 /// The settings, in luma samples except `max_mtt`. Nothing is checked before a call.
 ///
@@ -86,10 +86,7 @@ impl Settings {
     ///
     /// Numbers 1 to 9.
     pub fn unit_count(&self) -> Result<u64, Refusal> {
-        match raw::unit_count(&self.to_array()) {
-            [0, count] => Ok(count),
-            [number, place] => Err(Refusal { number, place }),
-        }
+        coding::unit_count(self)
     }
 }
 

@@ -7,7 +7,7 @@ use colwythar::Refusal;
 
 #[test]
 fn all_numbers_differ() {
-    let numbers: Vec<u64> = (1..=17).chain(20..=23).chain([27, 28]).collect();
+    let numbers: Vec<u64> = (1..=17).chain(20..=23).chain([27, 28, 34, 35]).collect();
     let sentence = |&number: &u64| {
         let refusal: Box<dyn Error> = Box::new(Refusal { number, place: 5 });
         let text = refusal.to_string();
@@ -41,6 +41,8 @@ fn sentences_that_say_a_limit_or_a_place() {
         (23, 132, "refusal 23: the page is too short, 132 bytes are needed"),
         (27, 3, "refusal 27: the table ends too early, more rows than 3 are needed"),
         (28, 4, "refusal 28: too many rows, the first that is too many is row 4, counted from 0"),
+        (34, 0, "refusal 34: the CTU side is not 16, 32 or 64"),
+        (35, 0, "refusal 35: MinCb is no power of two from 8 to the CTU side"),
     ];
     for (number, place, sentence) in sentences {
         assert_eq!(Refusal { number, place }.to_string(), sentence);

@@ -1,12 +1,14 @@
 //! Sessions: the order of units, and refusals in between.
 
-use colwythar::{raw, Refusal, Session, Settings};
+use std::fmt::Debug;
+
+use colwythar::{raw, Coding, Refusal, Session, Settings};
 
 use crate::A;
 
 /// A call that is refused and leaves session and buffer as they were.
-fn refused(
-    session: &mut Session,
+pub fn refused<S: Coding + Debug + PartialEq>(
+    session: &mut Session<S>,
     address: u64,
     flags: &[u8],
     room: usize,
