@@ -4,7 +4,7 @@ use h266::Answer;
 use samples::Rng;
 
 use crate::lent::Lent;
-use crate::{Entry, Tally};
+use crate::{Coding, Entry, Tally};
 
 /// What the engine answered, and the lent buffer afterwards, as far as it was written.
 #[derive(Clone, Debug, PartialEq, Eq)]
@@ -17,9 +17,6 @@ pub struct Outcome {
     pub written: Vec<u8>,
 }
 
-/// The same call on another side.
-pub(crate) type Other<'a> = &'a mut dyn FnMut(&mut [u8]) -> Answer;
-
 /// A call with a lent buffer, made on all sides.
 pub(crate) struct Call {
     pub(crate) entry: Entry,
@@ -29,21 +26,22 @@ pub(crate) struct Call {
 }
 
 impl Call {
-    /// Makes the call on the engine and on the other sides.
-    pub(crate) fn make<const N: usize>(
+    /// Makes the call on all sides, of which the engine is the first.
+    pub(crate) fn make<S: Coding, T>(
         &self,
-        tally: &mut Tally,
+        tally: &mut Tally<S>,
         rng: &mut Rng,
-        engine: impl FnOnce(&mut [u8]) -> [u64; 2],
-        others: [Other<'_>; N],
+        sides: &[T],
+        mut call: impl FnMut(&T, &mut [u8]) -> Answer,
         input: impl Fn() -> String,
     ) -> Outcome {
         let before = Lent::new(rng, self.room);
+        let (engine, others) = sides.split_first().expect("the engine");
         let mut first = before.clone();
-        let [number, value] = engine(first.part());
+        let (number, value) = call(engine, first.part());
         for other in others {
             let mut lent = before.clone();
-            let answer = other(lent.part());
+            let answer = call(other, lent.part());
             assert_eq!(answer, (number, value), "answers differ for {}", input());
             assert!(first == lent, "buffers differ for {}", input());
         }

@@ -1,29 +1,28 @@
 //! Random calls on single units.
 
 use colwythar::{max_flags_of_rows, MAX_FLAGS};
-use h266::{Params, Settings};
-use samples::{damage, settings, trees, Rng, Style};
+use samples::{damage, Rng};
 
-use crate::{pages, stops, Engine};
+use crate::{pages, stops, Coding, Engine};
 
 /// As much as the rows or flags of any unit need.
 pub(crate) const ROOM: usize = 8_192;
 
 /// A random unit of a picture, its flags, and what both directions take of room.
-pub(crate) struct Unit {
-    pub(crate) settings: Settings,
+pub(crate) struct Unit<S> {
+    pub(crate) settings: S,
     pub(crate) address: u64,
     pub(crate) flags: Vec<u8>,
     pub(crate) rows: Vec<u8>,
 }
 
 /// One round: a legal unit in both directions, then the same unit damaged in several ways.
-pub fn round(engine: &mut Engine, rng: &mut Rng) {
-    let settings = settings::valid(rng);
+pub fn round<S: Coding>(engine: &mut Engine<S>, rng: &mut Rng) {
+    let settings = S::valid(rng);
     assert_eq!(engine.open(rng, &settings), 0);
-    let address = rng.draw() % unit_count(&settings);
-    let style = rng.pick(&Style::ALL);
-    let unit = legal(engine, rng, settings, address, style);
+    let address = rng.draw() % settings.unit_count();
+    let flags = settings.any_flags(address, rng);
+    let unit = legal(engine, rng, settings, address, flags);
     rooms(engine, rng, &unit);
     drawn_flags(engine, rng, &unit);
     damaged_flags(engine, rng, &unit);
@@ -36,15 +35,14 @@ pub fn round(engine: &mut Engine, rng: &mut Rng) {
     pages::far(engine, rng);
 }
 
-/// A random tree of a unit, read and turned back on all sides.
-pub(crate) fn legal(
-    engine: &mut Engine,
+/// A unit with the flags of a tree, read and turned back on all sides.
+pub(crate) fn legal<S: Coding>(
+    engine: &mut Engine<S>,
     rng: &mut Rng,
-    settings: Settings,
+    settings: S,
     address: u64,
-    style: Style,
-) -> Unit {
-    let flags = trees::flags(&settings, address, rng, style);
+    flags: Vec<u8>,
+) -> Unit<S> {
     let read = engine.read(rng, &settings, address, &flags, ROOM);
     assert_eq!(read.number, 0, "a legal tree was refused: {settings:?} {address} {flags:?}");
     let rows = read.written;
@@ -53,22 +51,17 @@ pub(crate) fn legal(
     Unit { settings, address, flags, rows }
 }
 
-/// A picture of two by two units, the last of which reach so many samples into it: every unit with
-/// trees of every style, its flags and rows also damaged.
-pub fn edges(engine: &mut Engine, rng: &mut Rng, ctu: u32, width: u32, height: u32) {
-    for max_mtt in [0, 3] {
-        let settings = [ctu, 4, 8, max_mtt, ctu, ctu.min(64), ctu + width, ctu + height];
-        for (address, style) in (0..4).flat_map(|a| Style::ALL.map(|style| (a, style))) {
-            let unit = legal(engine, rng, settings, address, style);
+/// Every unit of a small picture with trees of every style, its flags and rows also damaged.
+pub fn all_units<S: Coding>(engine: &mut Engine<S>, rng: &mut Rng, settings: S) {
+    for address in 0..settings.unit_count() {
+        for &style in S::STYLES {
+            let flags = settings.flags(address, rng, style);
+            let unit = legal(engine, rng, settings, address, flags);
             rooms(engine, rng, &unit);
             damaged_flags(engine, rng, &unit);
             damaged_rows(engine, rng, &unit);
         }
     }
-}
-
-pub(crate) fn unit_count(settings: &Settings) -> u64 {
-    Params::new(settings).expect("valid settings").unit_count()
 }
 
 /// A length around the one needed.
@@ -84,7 +77,7 @@ pub(crate) fn room(rng: &mut Rng, needed: usize) -> usize {
 }
 
 /// Buffers that are too short, exact, longer, or as long as is planned for so many rows.
-fn rooms(engine: &mut Engine, rng: &mut Rng, unit: &Unit) {
+fn rooms<S: Coding>(engine: &mut Engine<S>, rng: &mut Rng, unit: &Unit<S>) {
     let Unit { settings, address, flags, rows } = unit;
     let short = room(rng, rows.len());
     engine.read(rng, settings, *address, flags, short);
@@ -98,10 +91,10 @@ fn rooms(engine: &mut Engine, rng: &mut Rng, unit: &Unit) {
 
 /// A tree from flags drawn at random, which knows no rules: there are more of them than any unit
 /// has, so they run over, and those before the place are the whole tree's.
-fn drawn_flags(engine: &mut Engine, rng: &mut Rng, unit: &Unit) {
+fn drawn_flags<S: Coding>(engine: &mut Engine<S>, rng: &mut Rng, unit: &Unit<S>) {
     let Unit { settings, address, .. } = unit;
     let ones = rng.pick(&[10, 30, 50, 70, 90]);
-    let drawn: Vec<u8> = (0..MAX_FLAGS + 1).map(|_| u8::from(rng.percent(ones))).collect();
+    let drawn: Vec<u8> = (0..=MAX_FLAGS).map(|_| u8::from(rng.percent(ones))).collect();
     let over = engine.read(rng, settings, *address, &drawn, ROOM);
     assert_eq!(over.number, 13, "random flags do not run over: {settings:?} {address}");
     let flags = &drawn[..over.value as usize];
@@ -112,7 +105,7 @@ fn drawn_flags(engine: &mut Engine, rng: &mut Rng, unit: &Unit) {
 }
 
 /// Flags that are changed, cut or extended; also with a short buffer, which is seen later.
-fn damaged_flags(engine: &mut Engine, rng: &mut Rng, unit: &Unit) {
+fn damaged_flags<S: Coding>(engine: &mut Engine<S>, rng: &mut Rng, unit: &Unit<S>) {
     let mut flags = unit.flags.clone();
     for _ in 0..4 {
         damage::flags(rng, &mut flags);
@@ -125,7 +118,7 @@ fn damaged_flags(engine: &mut Engine, rng: &mut Rng, unit: &Unit) {
 }
 
 /// Tables that are changed, cut or extended; also with a short buffer, which is seen later.
-fn damaged_rows(engine: &mut Engine, rng: &mut Rng, unit: &Unit) {
+fn damaged_rows<S: Coding>(engine: &mut Engine<S>, rng: &mut Rng, unit: &Unit<S>) {
     let mut rows = unit.rows.clone();
     for _ in 0..5 {
         damage::rows(rng, &mut rows);
@@ -138,23 +131,23 @@ fn damaged_rows(engine: &mut Engine, rng: &mut Rng, unit: &Unit) {
 }
 
 /// Tables that look like a tree's, but break a rule somewhere.
-fn lawless_rows(engine: &mut Engine, rng: &mut Rng, unit: &Unit) {
+fn lawless_rows<S: Coding>(engine: &mut Engine<S>, rng: &mut Rng, unit: &Unit<S>) {
     for _ in 0..3 {
-        let rows = trees::lawless_rows(&unit.settings, unit.address, rng);
+        let rows = unit.settings.lawless_rows(unit.address, rng);
         pages::beside(engine, rng, &unit.settings, unit.address, &rows, ROOM);
     }
 }
 
 /// The same flags and rows under settings with another limit.
-fn other_limits(engine: &mut Engine, rng: &mut Rng, unit: &Unit) {
-    let settings = settings::neighbour(rng, &unit.settings);
+fn other_limits<S: Coding>(engine: &mut Engine<S>, rng: &mut Rng, unit: &Unit<S>) {
+    let settings = unit.settings.neighbour(rng);
     engine.read(rng, &settings, unit.address, &unit.flags, ROOM);
     pages::beside(engine, rng, &settings, unit.address, &unit.rows, ROOM);
 }
 
 /// Addresses from the unit count on, and other units' addresses for this unit's data.
-fn no_such_unit(engine: &mut Engine, rng: &mut Rng, unit: &Unit) {
-    let count = unit_count(&unit.settings);
+fn no_such_unit<S: Coding>(engine: &mut Engine<S>, rng: &mut Rng, unit: &Unit<S>) {
+    let count = unit.settings.unit_count();
     let beyond = rng.pick(&[count, count + 1, count + (1 << 32), u64::MAX]);
     let other = rng.draw() % count;
     for address in [beyond, other] {
@@ -164,9 +157,8 @@ fn no_such_unit(engine: &mut Engine, rng: &mut Rng, unit: &Unit) {
 }
 
 /// Settings for each refusal, with data that may be damaged too, which is seen later.
-fn broken_settings(engine: &mut Engine, rng: &mut Rng, unit: &Unit) {
-    let number = 1 + rng.below(9);
-    let settings = settings::invalid(rng, number);
+fn broken_settings<S: Coding>(engine: &mut Engine<S>, rng: &mut Rng, unit: &Unit<S>) {
+    let settings = S::invalid(rng);
     let (mut flags, mut rows) = (unit.flags.clone(), unit.rows.clone());
     if rng.percent(50) {
         damage::flags(rng, &mut flags);

@@ -1,5 +1,6 @@
-//! Compares the engine with two unproved decoders, call by call: `h266`, written from the text of
-//! the standard, and `tuned`.
+//! Compares the engine with unproved decoders, call by call: for H.266 `h266`, written from the text of
+//! the standard, and `tuned`; for H.265 `h265`, written from its text. A [`Coding`] is what differs
+//! between the two, and the comparisons are written once.
 //!
 //! Each comparison makes the same call on all sides, with equal buffers of random bytes
 //! between guard bytes, and asserts that the answers, the buffers, the guards and the session's
@@ -8,10 +9,10 @@
 //! random legal trees, damaged flags and tables, every width and height at the edges, broken
 //! settings, lent buffers of every kind of length, whole sessions, small units in full, and the
 //! units with the most flags. Tables are also cut, go on after their end, and have rows changed,
-//! exchanged, left out and doubled. All tables are also printed as pages, which `tuned` does not
-//! have.
+//! exchanged, left out and doubled. All tables of H.266 are also printed as pages, which `tuned` does
+//! not have.
 //!
-//! `h266` shares nothing with the engine. `tuned` takes from `h266` the check of the settings, the
+//! `h266` and `h265` share nothing with the engine, nor with each other. `tuned` takes from `h266` the check of the settings, the
 //! rules of open splits and where a refused table stops being a tree, and so does the generator of
 //! trees the rules; trees are also drawn from random flags, which know no rules.
 //!
@@ -19,7 +20,7 @@
 //! use differential::{calls, Engine};
 //! use samples::Rng;
 //!
-//! let (mut engine, mut rng) = (Engine::default(), Rng::new(1));
+//! let (mut engine, mut rng) = (Engine::<h265::Settings>::default(), Rng::new(1));
 //! calls::round(&mut engine, &mut rng);
 //! assert!(engine.tally.calls() > 0);
 //! ```
@@ -28,6 +29,7 @@
 
 mod call;
 pub mod calls;
+mod coding;
 mod engine;
 mod lent;
 pub mod pages;
@@ -37,5 +39,6 @@ mod stops;
 mod tally;
 
 pub use call::Outcome;
+pub use coding::{Coding, OnUnit, Opening, Side};
 pub use engine::{Engine, UnitCall};
 pub use tally::{Entry, Tally};

@@ -1,11 +1,11 @@
-//! Millions of comparisons: `differential [calls] [seed]`.
+//! Millions of comparisons, of each coding: `differential [calls] [seed]`.
 
 use std::process::ExitCode;
 
-use differential::{calls, sessions, Engine};
+use differential::{calls, sessions, Coding, Engine};
 use samples::Rng;
 
-const USAGE: &str = "usage: differential [calls, default 1000000] [seed, default 1]";
+const USAGE: &str = "usage: differential [calls of each coding, default 1000000] [seed, default 1]";
 
 /// The argument at this position, or its default.
 fn number(position: usize, default: u64) -> Option<u64> {
@@ -20,7 +20,14 @@ fn main() -> ExitCode {
         eprintln!("{USAGE}");
         return ExitCode::FAILURE;
     };
-    let (mut engine, mut rng) = (Engine::default(), Rng::new(seed));
+    compare::<h266::Settings>("H.266", wanted, seed);
+    compare::<h265::Settings>("H.265", wanted, seed);
+    ExitCode::SUCCESS
+}
+
+/// Makes so many calls of a coding.
+fn compare<S: Coding>(name: &str, wanted: u64, seed: u64) {
+    let (mut engine, mut rng) = (Engine::<S>::default(), Rng::new(seed));
     let mut rounds = 0u64;
     while engine.tally.calls() < wanted {
         calls::round(&mut engine, &mut rng);
@@ -29,6 +36,5 @@ fn main() -> ExitCode {
         }
         rounds += 1;
     }
-    println!("{}, all equal, seed {seed}", engine.tally);
-    ExitCode::SUCCESS
+    println!("{name}: {}, all equal, seed {seed}", engine.tally);
 }

@@ -1,11 +1,11 @@
-//! Pages: of every kind of length, beside a way back, and far down the largest picture.
+//! Pages: of every kind of length, beside a way back, and far down the largest picture. Of a coding
+//! without pages the rest is compared.
 
 use colwythar::LINE_BYTES;
-use h266::Settings;
-use samples::{settings, Rng, Style};
+use samples::Rng;
 
-use crate::calls::{legal, room, unit_count, Unit};
-use crate::{Engine, Outcome};
+use crate::calls::{legal, room, Unit};
+use crate::{Coding, Engine, Outcome};
 
 /// The bytes of a page of these rows.
 fn needed(rows: &[u8]) -> usize {
@@ -13,7 +13,10 @@ fn needed(rows: &[u8]) -> usize {
 }
 
 /// The page of a legal unit, lent empty, shorter, a byte short, exact and longer.
-pub(crate) fn lengths(engine: &mut Engine, rng: &mut Rng, unit: &Unit) {
+pub(crate) fn lengths<S: Coding>(engine: &mut Engine<S>, rng: &mut Rng, unit: &Unit<S>) {
+    if S::PAGES.is_empty() {
+        return;
+    }
     let Unit { settings, address, rows, .. } = unit;
     let needed = needed(rows);
     for room in [0, rng.below(needed), needed - 1, needed, needed + 1 + rng.below(100)] {
@@ -26,15 +29,18 @@ pub(crate) fn lengths(engine: &mut Engine, rng: &mut Rng, unit: &Unit) {
 
 /// Rows to flags, into a buffer of `flag_room` bytes, and to a page of a random length. What the
 /// way back refuses, the page refuses alike. Answers the way back's outcome.
-pub fn beside(
-    engine: &mut Engine,
+pub fn beside<S: Coding>(
+    engine: &mut Engine<S>,
     rng: &mut Rng,
-    settings: &Settings,
+    settings: &S,
     address: u64,
     rows: &[u8],
     flag_room: usize,
 ) -> Outcome {
     let back = engine.write(rng, settings, address, rows, flag_room);
+    if S::PAGES.is_empty() {
+        return back;
+    }
     let lent = room(rng, needed(rows));
     let page = engine.page(rng, settings, address, rows, lent);
     let answer = (page.number, page.value);
@@ -45,13 +51,13 @@ pub fn beside(
     back
 }
 
-/// A unit of the largest picture, often its last one: addresses up to 262,143.
-pub(crate) fn far(engine: &mut Engine, rng: &mut Rng) {
-    let mut settings = settings::valid(rng);
-    settings[6..].fill(16_384);
-    let count = unit_count(&settings);
+/// A unit of the largest picture, often its last one: addresses up to 262,143 in H.266, 1,048,575 in
+/// H.265.
+pub(crate) fn far<S: Coding>(engine: &mut Engine<S>, rng: &mut Rng) {
+    let settings = S::valid(rng).with_picture(16_384, 16_384);
+    let count = settings.unit_count();
     let address = if rng.percent(30) { count - 1 } else { rng.draw() % count };
-    let style = rng.pick(&Style::ALL);
-    let unit = legal(engine, rng, settings, address, style);
+    let flags = settings.any_flags(address, rng);
+    let unit = legal(engine, rng, settings, address, flags);
     lengths(engine, rng, &unit);
 }

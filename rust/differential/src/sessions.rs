@@ -1,19 +1,24 @@
 //! Whole pictures through a session, with refused calls in between.
 
-use h266::{Params, Settings};
-use samples::{damage, settings, trees, Rng, Style};
+use samples::{damage, Rng};
 
 use crate::calls::ROOM;
 use crate::engine::assert_in_order;
-use crate::{Engine, UnitCall};
+use crate::{Coding, Engine, UnitCall};
 
 /// The most units of a picture here.
 const MOST_UNITS: u64 = 40;
 
-/// Reads one random picture to its end, and goes on after it.
-pub fn picture(engine: &mut Engine, rng: &mut Rng) {
+/// Reads one random picture, and tries forged sessions of it.
+pub fn picture<S: Coding>(engine: &mut Engine<S>, rng: &mut Rng) {
     let settings = small_picture(rng);
-    let count = unit_count(&settings);
+    whole(engine, rng, settings);
+    forged(engine, rng, &settings);
+}
+
+/// Reads a picture to its end, and goes on after it.
+pub fn whole<S: Coding>(engine: &mut Engine<S>, rng: &mut Rng, settings: S) {
+    let count = settings.unit_count();
     assert_eq!(engine.open(rng, &settings), 0);
     let mut due = 0;
     let mut joined = Vec::new();
@@ -33,27 +38,21 @@ pub fn picture(engine: &mut Engine, rng: &mut Rng) {
     assert_covered(&settings, &joined);
     assert_in_order(&settings, &joined);
     after_the_end(engine, rng, &settings, due);
-    forged(engine, rng, &settings);
 }
 
 /// Settings of a picture that is read quickly.
-fn small_picture(rng: &mut Rng) -> Settings {
+fn small_picture<S: Coding>(rng: &mut Rng) -> S {
     loop {
-        let settings = settings::valid(rng);
-        if unit_count(&settings) <= MOST_UNITS {
+        let settings = S::valid(rng);
+        if settings.unit_count() <= MOST_UNITS {
             return settings;
         }
     }
 }
 
-fn unit_count(settings: &Settings) -> u64 {
-    Params::new(settings).expect("valid settings").unit_count()
-}
-
 /// A call that has to be accepted when its address is due.
-fn legal(rng: &mut Rng, settings: &Settings, address: u64) -> UnitCall {
-    let style = rng.pick(&Style::ALL);
-    let flags = trees::flags(settings, address, rng, style);
+fn legal<S: Coding>(rng: &mut Rng, settings: &S, address: u64) -> UnitCall {
+    let flags = settings.any_flags(address, rng);
     UnitCall { address, flags, room: ROOM }
 }
 
@@ -69,7 +68,7 @@ fn disturbed(rng: &mut Rng, call: &UnitCall, count: u64) -> UnitCall {
 }
 
 /// No call is accepted once the picture is complete.
-fn after_the_end(engine: &mut Engine, rng: &mut Rng, settings: &Settings, count: u64) {
+fn after_the_end<S: Coding>(engine: &mut Engine<S>, rng: &mut Rng, settings: &S, count: u64) {
     let mut due = count;
     for address in [count, 0, count - 1, u64::MAX] {
         let call = UnitCall { address, flags: vec![0; rng.below(3)], room: rng.below(64) };
@@ -79,16 +78,15 @@ fn after_the_end(engine: &mut Engine, rng: &mut Rng, settings: &Settings, count:
 }
 
 /// Sessions that no opening gave: an address past the end, or broken settings.
-fn forged(engine: &mut Engine, rng: &mut Rng, settings: &Settings) {
-    let count = unit_count(settings);
+fn forged<S: Coding>(engine: &mut Engine<S>, rng: &mut Rng, settings: &S) {
+    let count = settings.unit_count();
     let call = legal(rng, settings, 0);
     for mut due in [count + 1, count + 2, 1 << 32, u64::MAX] {
         let address = rng.pick(&[due, 0, count]);
         let call = UnitCall { address, ..call.clone() };
         assert_eq!(engine.unit(rng, settings, &mut due, &call).number, 22);
     }
-    let number = 1 + rng.below(9);
-    let broken = settings::invalid(rng, number);
+    let broken = S::invalid(rng);
     let mut due = rng.pick(&[0, 1, count, u64::MAX]);
     let call = UnitCall { address: due, ..call };
     if engine.open(rng, &broken) != 0 {
@@ -100,8 +98,9 @@ fn forged(engine: &mut Engine, rng: &mut Rng, settings: &Settings) {
 }
 
 /// Every sample of the picture lies in exactly one row of the joined table.
-fn assert_covered(settings: &Settings, joined: &[u8]) {
-    let (width, height) = (settings[6] as usize / 4, settings[7] as usize / 4);
+fn assert_covered<S: Coding>(settings: &S, joined: &[u8]) {
+    let (width, height) = settings.picture();
+    let (width, height) = (width as usize / 4, height as usize / 4);
     let mut times = vec![0u8; width * height];
     for row in colwythar::rows(joined) {
         let (left, top) = (usize::from(row.x) / 4, usize::from(row.y) / 4);

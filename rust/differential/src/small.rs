@@ -2,24 +2,24 @@
 
 use std::collections::BTreeSet;
 
-use h266::Settings;
 use samples::brute::{all_trees, Beginnings, Trees};
 use samples::{damage, Rng};
 
 use crate::calls::ROOM;
-use crate::{pages, Engine};
+use crate::{pages, Coding, Engine};
 
 /// Checks a unit in full and answers how many trees it has, or nothing where there are more than
 /// `limit`.
-pub fn unit(
-    engine: &mut Engine,
+pub fn unit<S: Coding>(
+    engine: &mut Engine<S>,
     rng: &mut Rng,
-    settings: &Settings,
+    settings: &S,
     address: u64,
     limit: usize,
 ) -> Option<usize> {
-    let second = |flags: &[u8], rows: &mut [u8]| h266::read_unit(settings, address, flags, rows);
-    let expected = all_trees(limit, second)?;
+    let [_, second, ..] = S::SIDES else { panic!("a second decoder") };
+    let read = |flags: &[u8], rows: &mut [u8]| (second.read)(settings, address, flags, rows);
+    let expected = all_trees(limit, read)?;
     let read = |flags: &[u8], rows: &mut [u8]| {
         let outcome = engine.read(rng, settings, address, flags, rows.len());
         rows[..outcome.written.len()].copy_from_slice(&outcome.written);
@@ -33,7 +33,13 @@ pub fn unit(
 
 /// Every table turns back into its flags; a damaged one only if it is another tree's, and else
 /// stops where no tree's table goes on.
-fn way_back(engine: &mut Engine, rng: &mut Rng, settings: &Settings, address: u64, trees: &Trees) {
+fn way_back<S: Coding>(
+    engine: &mut Engine<S>,
+    rng: &mut Rng,
+    settings: &S,
+    address: u64,
+    trees: &Trees,
+) {
     // In order, so that each run damages the same tables.
     let tables: BTreeSet<_> = trees.iter().collect();
     let beginnings = Beginnings::of(trees);

@@ -1,9 +1,12 @@
 //! How many calls were made, and how they were answered.
 
 use std::fmt;
+use std::marker::PhantomData;
+
+use crate::Coding;
 
 /// One above the greatest number of a refusal.
-const NUMBERS: usize = 29;
+const NUMBERS: usize = 36;
 
 /// The functions of the engine.
 #[derive(Clone, Copy, Debug, PartialEq, Eq)]
@@ -27,25 +30,33 @@ impl Entry {
     pub const ALL: [Self; 6] =
         [Self::Read, Self::Write, Self::Page, Self::Open, Self::Count, Self::Unit];
 
-    /// The refusals that this function can give.
-    pub fn numbers(self) -> Vec<usize> {
-        match self {
-            Self::Read => (1..=14).collect(),
-            Self::Write => (1..=10).chain(15..=17).chain([27, 28]).collect(),
-            Self::Page => (1..=10).chain([15, 16, 23, 27, 28]).collect(),
-            Self::Open | Self::Count => (1..=9).collect(),
-            Self::Unit => (11..=14).chain(20..=22).collect(),
-        }
+    /// The refusals that this function of a coding can give.
+    pub fn numbers<S: Coding>(self) -> Vec<usize> {
+        let own: &[usize] = match self {
+            Self::Read => &[10, 11, 12, 13, 14],
+            Self::Write => &[10, 15, 16, 17, 27, 28],
+            Self::Page => &[10, 15, 16, 23, 27, 28],
+            Self::Open | Self::Count => &[],
+            Self::Unit => return vec![11, 12, 13, 14, 20, 21, 22],
+        };
+        [S::FAULTS, own].concat()
     }
 }
 
 /// Answers by function and number; number 0 counts the accepted calls.
-#[derive(Clone, Debug, Default)]
-pub struct Tally {
+#[derive(Clone, Debug)]
+pub struct Tally<S> {
     answers: [[u64; NUMBERS]; Entry::ALL.len()],
+    coding: PhantomData<S>,
 }
 
-impl Tally {
+impl<S: Coding> Default for Tally<S> {
+    fn default() -> Self {
+        Self { answers: [[0; NUMBERS]; Entry::ALL.len()], coding: PhantomData }
+    }
+}
+
+impl<S: Coding> Tally<S> {
     /// Counts one answer.
     ///
     /// # Panics
@@ -71,21 +82,21 @@ impl Tally {
     ///
     /// Where one did not.
     pub fn assert_each(&self, entry: Entry, least: u64) {
-        for number in [vec![0], entry.numbers()].concat() {
+        for number in [vec![0], entry.numbers::<S>()].concat() {
             let times = self.of(entry, number);
             assert!(times >= least, "{entry:?} answered {number} only {times} times:\n{self}");
         }
     }
 }
 
-impl fmt::Display for Tally {
+impl<S: Coding> fmt::Display for Tally<S> {
     fn fmt(&self, f: &mut fmt::Formatter<'_>) -> fmt::Result {
         for entry in Entry::ALL {
             if self.answers[entry as usize].iter().all(|&times| times == 0) {
                 continue;
             }
             write!(f, "{entry:?}: {} accepted; refused", self.of(entry, 0))?;
-            for number in entry.numbers() {
+            for number in entry.numbers::<S>() {
                 write!(f, " {number}: {}", self.of(entry, number))?;
             }
             writeln!(f)?;

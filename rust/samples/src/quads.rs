@@ -47,14 +47,16 @@ pub fn neighbour(rng: &mut Rng, settings: &Settings) -> Settings {
     }
 }
 
-/// The flags of a random tree of this unit, more or less deep. They are drawn without any rule, and the
-/// reader says where they end.
+/// Of 100 flags, so many are 1: shallow trees, deep ones, and smallest blocks only.
+pub const STYLES: [usize; 5] = [10, 30, 60, 90, 100];
+
+/// The flags of a random tree of this unit, with so many of 100 set. They are drawn without any rule,
+/// and the reader says where they end.
 ///
 /// # Panics
 ///
 /// Where the settings are refused or there is no such unit.
-pub fn flags(settings: &Settings, address: u64, rng: &mut Rng) -> Vec<u8> {
-    let ones = rng.pick(&[10, 30, 60, 90, 100]);
+pub fn flags(settings: &Settings, address: u64, rng: &mut Rng, ones: usize) -> Vec<u8> {
     let mut drawn: Vec<u8> = (0..=MAX_FLAGS).map(|_| u8::from(rng.percent(ones))).collect();
     match h265::read_unit(settings, address, &drawn, &mut []) {
         (13, end) => drawn.truncate(end as usize),
@@ -81,8 +83,10 @@ pub fn lawless_rows(settings: &Settings, address: u64, rng: &mut Rng) -> Vec<u8>
             break other;
         }
     };
+    let ones = rng.pick(&STYLES);
+    let flags = flags(&other, address, rng, ones);
     let mut rows = vec![0; 8 * h265::MAX_ROWS];
-    let (_, count) = h265::read_unit(&other, address, &flags(&other, address, rng), &mut rows);
+    let (_, count) = h265::read_unit(&other, address, &flags, &mut rows);
     rows.truncate(8 * count as usize);
     rows
 }

@@ -1,5 +1,7 @@
-//! The engine against `h266` and `tuned`: at least 200,000 calls on each, with fixed seeds.
+//! The engine against `h266` and `tuned`, and for H.265 against `h265`: at least 200,000 calls on each,
+//! with fixed seeds.
 
+mod h265;
 mod pages;
 mod stops;
 
@@ -9,10 +11,13 @@ use h266::Params;
 use samples::longest::{self, Longest};
 use samples::Rng;
 
+/// The engine beside `h266` and `tuned`.
+type H266 = Engine<h266::Settings>;
+
 /// Single units: legal, damaged, with every kind of buffer, with broken settings.
 #[test]
 fn single_units() {
-    let (mut engine, mut rng) = (Engine::default(), Rng::new(101));
+    let (mut engine, mut rng) = (H266::default(), Rng::new(101));
     for _ in 0..8_000 {
         calls::round(&mut engine, &mut rng);
     }
@@ -34,11 +39,15 @@ fn single_units() {
 /// Every width and height of the units at the right and bottom edge, for every CTU side.
 #[test]
 fn edges() {
-    let (mut engine, mut rng) = (Engine::default(), Rng::new(104));
+    let (mut engine, mut rng) = (H266::default(), Rng::new(104));
     for ctu in [32, 64, 128] {
         for width in (8..=ctu).step_by(8) {
             for height in (8..=ctu).step_by(8) {
-                calls::edges(&mut engine, &mut rng, ctu, width, height);
+                for max_mtt in [0, 3] {
+                    let (width, height) = (ctu + width, ctu + height);
+                    let settings = [ctu, 4, 8, max_mtt, ctu, ctu.min(64), width, height];
+                    calls::all_units(&mut engine, &mut rng, settings);
+                }
             }
         }
     }
@@ -54,7 +63,7 @@ fn edges() {
 /// Whole pictures, refused calls in between, calls after the end, forged sessions.
 #[test]
 fn pictures() {
-    let (mut engine, mut rng) = (Engine::default(), Rng::new(102));
+    let (mut engine, mut rng) = (H266::default(), Rng::new(102));
     for _ in 0..3_000 {
         sessions::picture(&mut engine, &mut rng);
     }
@@ -68,7 +77,7 @@ fn pictures() {
 /// Every tree of every unit that is small enough.
 #[test]
 fn small_units_in_full() {
-    let (mut engine, mut rng) = (Engine::default(), Rng::new(103));
+    let (mut engine, mut rng) = (H266::default(), Rng::new(103));
     let (mut units, mut trees) = (0, 0);
     for settings in samples::small::settings() {
         let last = Params::new(&settings).expect("valid settings").unit_count() - 1;
@@ -83,7 +92,7 @@ fn small_units_in_full() {
 
 /// Read, and turned back: into a buffer that just holds the flags, and into one that is a byte
 /// shorter.
-fn assert_longest(engine: &mut Engine, rng: &mut Rng, unit: &Longest) {
+fn assert_longest(engine: &mut H266, rng: &mut Rng, unit: &Longest) {
     let Longest { settings, flags, rows } = unit;
     let read = engine.read(rng, settings, 0, flags, 8 * rows);
     assert_eq!((read.number, read.value), (0, *rows as u64), "{unit:?}");
@@ -96,7 +105,7 @@ fn assert_longest(engine: &mut Engine, rng: &mut Rng, unit: &Longest) {
 /// Units that have as many flags as is planned for their rows, or for their CTU side.
 #[test]
 fn planned_flags_are_reached() {
-    let (mut engine, mut rng) = (Engine::default(), Rng::new(105));
+    let (mut engine, mut rng) = (H266::default(), Rng::new(105));
     for rows in 1..=64 {
         let unit = longest::of_rows(rows);
         assert_eq!(unit.flags.len(), max_flags_of_rows(rows));

@@ -1,9 +1,11 @@
 //! Pages of the engine beside those of `h266`.
 
 use colwythar::MAX_PAGE_BYTES;
-use differential::{pages, Engine, Entry};
+use differential::{pages, Entry};
 use samples::paper::{examples, Example};
 use samples::{deepest, Rng};
+
+use crate::H266;
 
 /// As many flag bytes as any unit needs.
 const ROOM: usize = 8_192;
@@ -11,7 +13,7 @@ const ROOM: usize = 8_192;
 /// The paper's tables with every byte changed to every other value: no tree gives them.
 #[test]
 fn every_change_of_a_byte() {
-    let (mut engine, mut rng) = (Engine::default(), Rng::new(106));
+    let (mut engine, mut rng) = (H266::default(), Rng::new(106));
     for Example { settings, address, rows, .. } in examples() {
         for (at, change) in (0..rows.len()).flat_map(|at| (0..=255).map(move |c| (at, c))) {
             let mut changed = rows.clone();
@@ -35,7 +37,7 @@ fn every_change_of_a_byte() {
 /// Units of the largest pictures that are one row, at addresses of one to six digits.
 #[test]
 fn addresses_of_every_length() {
-    let (mut engine, mut rng) = (Engine::default(), Rng::new(108));
+    let (mut engine, mut rng) = (H266::default(), Rng::new(108));
     let addresses = [0, 9, 10, 99, 100, 999, 1_000, 9_999, 10_000, 99_999, 100_000, 262_143];
     for (ctu, last) in [(32, 262_143), (64, 65_535), (128, 16_383)] {
         let settings = [ctu, 4, 8, 3, ctu, ctu.min(64), 16_384, 16_384];
@@ -53,7 +55,7 @@ fn addresses_of_every_length() {
 /// MTT depths of one and two digits.
 #[test]
 fn the_deepest_rows() {
-    let (mut engine, mut rng) = (Engine::default(), Rng::new(110));
+    let (mut engine, mut rng) = (H266::default(), Rng::new(110));
     let page = engine.page(&mut rng, &deepest::SETTINGS, 0, &deepest::rows(), 1_000);
     assert_eq!((page.number, page.value), (0, 33 * 11));
     assert_eq!(page.written[..33], *b"     0     0     0   4   4  0 10\n");
@@ -62,7 +64,7 @@ fn the_deepest_rows() {
 /// The unit with the most rows, by quads alone, fills the longest page.
 #[test]
 fn the_longest_page() {
-    let (mut engine, mut rng) = (Engine::default(), Rng::new(109));
+    let (mut engine, mut rng) = (H266::default(), Rng::new(109));
     let settings = [128, 4, 4, 0, 128, 64, 16_384, 16_384];
     for address in [0, 16_383] {
         let read = engine.read(&mut rng, &settings, address, &[1; 341], ROOM);

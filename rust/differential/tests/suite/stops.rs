@@ -1,16 +1,18 @@
 //! Where tables stop being trees, where the answer is known from the table alone.
 
-use differential::{pages, Engine};
+use differential::pages;
 use h266::Settings;
 use samples::paper::{examples, Example};
 use samples::{broken, hardest, trees, Rng, Style};
+
+use crate::H266;
 
 /// As many flag bytes as any unit needs.
 const ROOM: usize = 8_192;
 
 /// A whole table, and the engine that is asked about others.
 struct Table {
-    engine: Engine,
+    engine: H266,
     rng: Rng,
     settings: Settings,
     address: u64,
@@ -20,12 +22,12 @@ struct Table {
 impl Table {
     fn of(example: Example, seed: u64) -> Self {
         let Example { settings, address, rows, .. } = example;
-        Self { engine: Engine::default(), rng: Rng::new(seed), settings, address, rows }
+        Self { engine: H266::default(), rng: Rng::new(seed), settings, address, rows }
     }
 
     /// 128 by 128 in blocks of 4 by 4, by random cuts, or by quads where these settings have no cuts.
     fn full(settings: Settings, seed: u64) -> Self {
-        let (mut engine, mut rng) = (Engine::default(), Rng::new(seed));
+        let (mut engine, mut rng) = (H266::default(), Rng::new(seed));
         let flags = trees::flags(&settings, 0, &mut rng, Style::Smallest);
         let rows = engine.read(&mut rng, &settings, 0, &flags, ROOM).written;
         assert_eq!(rows.len(), 8 * 1_024);
@@ -115,7 +117,7 @@ fn tables_longer_than_any_units() {
 /// Broken at its end, and cut before each of its rows.
 #[test]
 fn the_hardest_table() {
-    let (engine, rng) = (Engine::default(), Rng::new(116));
+    let (engine, rng) = (H266::default(), Rng::new(116));
     let (settings, rows) = (hardest::SETTINGS, hardest::rows());
     let mut table = Table { engine, rng, settings, address: 0, rows: rows.clone() };
     assert_eq!(table.stop(&rows), (16, 1_023));

@@ -16,7 +16,8 @@ struct Case {
 fn case(rng: &mut Rng) -> Case {
     let settings = quads::valid(rng);
     let address = rng.draw() % Params::new(&settings).expect("valid settings").unit_count();
-    let flags = quads::flags(&settings, address, rng);
+    let ones = rng.pick(&quads::STYLES);
+    let flags = quads::flags(&settings, address, rng, ones);
     let mut rows = vec![0; ROOM];
     let (number, count) = read_unit(&settings, address, &flags, &mut rows);
     assert_eq!(number, 0, "{settings:?} unit {address} {flags:?}");
