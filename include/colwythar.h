@@ -1,15 +1,16 @@
 /*
- * Colwythar: H.266 (VVC) split flags into the table of coding blocks, and back.
+ * Colwythar: H.266 (VVC) split flags into the table of coding blocks, and back; and H.265 (HEVC) ones.
  *
  * Link with libcolwythar.a, for 64-bit x86-64 Linux (`bin/install PREFIX` puts it in place, with a pkg-config file). It
  * needs memcpy and memset, allocates nothing, keeps no state, and uses less than 16 KiB of stack. Each function is
  * proved to do what crates/colwythar/src/lib.rt says of it, for all settings, addresses, bytes and lengths.
  *
  * Settings are eight numbers: CTU side, MinCb side, MinQt side, M (greatest multi-type depth), MaxBt side, MaxTt side,
- * picture width, picture height, in luma samples.
+ * picture width, picture height, in luma samples. Those of H.265, for the functions colwythar_h265_..., are four: CTU
+ * side, MinCb side (that of the smallest block), picture width, picture height.
  *
  * A flag is one byte, 0 or 1. A row is 8 bytes: X and Y (16 bits each, low byte first), exponent of the width, exponent
- * of the height, QT depth, MTT depth.
+ * of the height, QT depth, MTT depth, which is 0 in H.265.
  *
  * An answer is two numbers. answer[0] is COLWYTHAR_ACCEPTED, which is 0, where the call is accepted, else the number of
  * the refusal, which is never 0; answer[1] is the count of rows, flags, units or bytes of a page, or the refusal's place,
@@ -29,25 +30,26 @@
 extern "C" {
 #endif
 
-/* Limits, proved: no unit has more rows, row bytes or flags, so buffers of these lengths are never too short. */
+/* Limits, proved: no unit, of H.266 or H.265, has more rows, row bytes or flags, so buffers of these lengths are never too
+ * short. */
 #define COLWYTHAR_MAX_ROWS 1024
 #define COLWYTHAR_MAX_ROW_BYTES 8192
 #define COLWYTHAR_MAX_FLAGS 1786
 
-/* The most flags of a unit, by its CTU side 32, 64 or 128. Proved: no unit has more, and some unit has so many: one of 32 by
- * 32 or 64 by 64, halved vertically and horizontally in turn down to blocks of 8 by 4, or four such quarters of 64 by 64
- * (settings 32 4 8 6 32 32 32 32, 64 4 8 8 64 64 64 64, and 128 4 8 8 128 64 128 128). */
+/* The most flags of a unit of H.266, by its CTU side 32, 64 or 128. Proved: no unit has more, and some unit has so many:
+ * one of 32 by 32 or 64 by 64, halved vertically and horizontally in turn down to blocks of 8 by 4, or four such quarters of
+ * 64 by 64 (settings 32 4 8 6 32 32 32 32, 64 4 8 8 64 64 64 64, and 128 4 8 8 128 64 128 128). */
 #define COLWYTHAR_MAX_FLAGS_OF_CTU(ctu) ((ctu) == 32 ? 110 : (ctu) == 64 ? 446 : COLWYTHAR_MAX_FLAGS)
 
 /* A bound on the flags of a unit of so many rows: 4 for each row, less 2; 0 for no rows, which no unit has. Proved: no unit
- * of so many rows has more flags, so a flag buffer of this length is never refused with 17; and for 1 to 64 rows some unit
- * has so many: for one row in a picture half as wide as the unit (settings 64 4 8 3 64 32 32 64, flags 0 0), for others one
- * of 64 by 64 that is halved until it has so many blocks. From 65 rows on none has, which is found by search. Where the
- * number by the CTU side is smaller, that is enough. */
+ * of so many rows has more flags, in H.265 neither, so a flag buffer of this length is never refused with 17; and for 1 to
+ * 64 rows some unit of H.266 has so many: for one row in a picture half as wide as the unit (settings 64 4 8 3 64 32 32 64,
+ * flags 0 0), for others one of 64 by 64 that is halved until it has so many blocks. From 65 rows on none has, which is
+ * found by search. Where the number by the CTU side is smaller, that is enough. */
 #define COLWYTHAR_MAX_FLAGS_OF_ROWS(rows) ((rows) ? 4 * (size_t)(rows) - 2 : 0)
 
 /* The side of the pipeline units, by the CTU side: the smaller of 64 and the CTU side. They are squares, laid side by side
- * from (0, 0). Proved: each row lies inside one of them or consists of whole ones; with CTU side 32, no row leaves its
+ * from (0, 0). Proved: each row lies inside one of them or consists of whole ones; with CTU side 16 or 32, no row leaves its
  * own. Proved, too: the rows that lie in one of them follow each other in the unit's table; and once a sample of one has
  * come and the next row does not lie in it, or the table ends, all of its samples that lie in the picture have come, each
  * once, and none comes later, also where the tables of a session follow each other. So a pipeline may start on one of them
@@ -61,7 +63,7 @@ extern "C" {
 
 /* The numbers of an answer. Within a group the first that fails, in the order of the numbers, is answered; but 11 and 12
  * are met in the walk, whichever comes first, 27 and 28 are tested before 16, and the session's are tested in the order
- * 22, 20, 21, before the flags. */
+ * 22, 20, 21, before the flags. H.265 has 34, 35, 7 and 8, in this order, in place of 1 to 9. */
 #define COLWYTHAR_ACCEPTED 0
 
 /* The settings. */
@@ -74,6 +76,10 @@ extern "C" {
 #define COLWYTHAR_BAD_WIDTH          7 /* width 0, above 16,384, or no multiple of the larger of 8 and MinCb */
 #define COLWYTHAR_BAD_HEIGHT         8 /* height likewise */
 #define COLWYTHAR_BAD_EDGE           9 /* M is 0, and width or height no multiple of MinQt */
+
+/* The settings of H.265. 7 and 8 follow: there MinCb is the larger of 8 and MinCb. */
+#define COLWYTHAR_BAD_H265_CTU      34 /* CTU side not 16, 32 or 64 */
+#define COLWYTHAR_BAD_H265_MIN_CB   35 /* MinCb not a power of two from 8 to the CTU side */
 
 /* The unit. */
 #define COLWYTHAR_NO_UNIT           10 /* no such unit */
@@ -95,7 +101,7 @@ extern "C" {
 /* The session. */
 #define COLWYTHAR_COMPLETE          20 /* the picture is complete */
 #define COLWYTHAR_NOT_DUE           21 /* the address is not the due one; place: the due one */
-#define COLWYTHAR_NO_SESSION        22 /* the settings fail 1 to 9, or the due address exceeds the unit count */
+#define COLWYTHAR_NO_SESSION        22 /* its settings are refused, or the due address exceeds the unit count */
 
 /* Printing a page, after 1 to 10, 15, 27, 28 and 16. */
 #define COLWYTHAR_SHORT_PAGE        23 /* page too short; place: the bytes needed */
@@ -128,6 +134,27 @@ void colwythar_open(const uint32_t settings[8], uint64_t *due, uint64_t answer[2
  * address is the number of units, and the picture is complete. */
 void colwythar_unit(const uint32_t settings[8], uint64_t *due, uint64_t address, const uint8_t *flags,
                     size_t flags_len, uint8_t *rows, size_t rows_len, uint64_t answer[2]);
+
+/* The same for H.265, whose tree is a quad tree only: a node has a flag where it lies inside the picture and is larger than
+ * MinCb, and is split without one where it reaches out of the picture. */
+
+/* As colwythar_read_unit. Answers the number of rows, or 34, 35, 7, 8 and 10 to 14. */
+void colwythar_h265_read_unit(const uint32_t settings[4], uint64_t address, const uint8_t *flags, size_t flags_len,
+                              uint8_t *rows, size_t rows_len, uint64_t answer[2]);
+
+/* As colwythar_write_flags. Answers the number of flags, or 34, 35, 7, 8, 10, 15, 27, 28, 16 and 17. */
+void colwythar_h265_write_flags(const uint32_t settings[4], uint64_t address, const uint8_t *rows, size_t rows_len,
+                                uint8_t *flags, size_t flags_len, uint64_t answer[2]);
+
+/* As colwythar_unit_count. Answers the number of units, or 34, 35, 7 and 8. */
+void colwythar_h265_unit_count(const uint32_t settings[4], uint64_t answer[2]);
+
+/* As colwythar_open. Answers 0 and 0, or 34, 35, 7 and 8. */
+void colwythar_h265_open(const uint32_t settings[4], uint64_t *due, uint64_t answer[2]);
+
+/* As colwythar_unit. Answers the number of rows, or 22, 20, 21 and 11 to 14. */
+void colwythar_h265_unit(const uint32_t settings[4], uint64_t *due, uint64_t address, const uint8_t *flags,
+                         size_t flags_len, uint8_t *rows, size_t rows_len, uint64_t answer[2]);
 
 #ifdef __cplusplus
 }
