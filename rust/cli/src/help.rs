@@ -18,6 +18,7 @@ A FILE is text, and - is standard input. It gives its picture first, then units,
   unit 0: 1 0 0 0 0
 
   picture   CTU MinCb MinQt M MaxBt MaxTt width height
+  h265      CTU MinCb width height: in its place, a picture in H.265, which has no page
   unit      the unit's address and split flags; unit lines stand in the order of the addresses
   a row     unit, x, y, width, height, QT depth, MTT depth; all rows of a unit stand together
   #         begins a comment
@@ -38,7 +39,8 @@ pub fn text(entry: Option<&'static Entry>) -> String {
     let entries = chosen(entry);
     let width = entries.iter().map(|entry| synopsis(entry).len()).max().unwrap_or(0);
     let mut text =
-        "Split flags of H.266 coding tree units to coding blocks, and back.\n\n".to_string();
+        "Split flags of H.266 and H.265 coding tree units to coding blocks, and back.\n\n"
+            .to_string();
     for entry in entries {
         text += &format!("  {:width$}   {}\n", synopsis(entry), entry.about);
     }

@@ -3,8 +3,8 @@
 //! blocks.
 //!
 //! A subcommand is one file in `commands`, which implements [`Command`]; `COMMANDS` lists them.
-//! Everything else is shared: `text` says what the lines are, `reading` gives the units to the
-//! engine, and `run` sees to files, output and the exit status.
+//! Everything else is shared: `text` says what the lines are, `picture` has the two codings, `reading`
+//! gives the units to the engine, and `run` sees to files, output and the exit status.
 #![forbid(unsafe_code)]
 #![warn(missing_docs)]
 
@@ -13,6 +13,7 @@ mod commands;
 mod complaint;
 mod help;
 mod output;
+mod picture;
 mod printing;
 mod reading;
 mod run;
@@ -22,5 +23,6 @@ pub mod text;
 
 pub use commands::{Command, Context, Sum, Unit};
 pub use complaint::{Complaint, Place};
+pub use picture::{Picture, Units};
 pub use reading::{read, Trouble};
 pub use run::run;

@@ -2,9 +2,9 @@
 
 use std::io::{self, Write};
 
-use colwythar::{Row, Settings};
+use colwythar::Row;
 
-use crate::{Context, Sum, Unit};
+use crate::{Context, Picture, Sum, Unit};
 
 /// The file's name, where there are several files.
 pub fn heading(context: &mut Context<'_>) -> io::Result<()> {
@@ -15,9 +15,9 @@ pub fn heading(context: &mut Context<'_>) -> io::Result<()> {
 }
 
 /// The picture line.
-pub fn picture(settings: &Settings, out: &mut dyn Write) -> io::Result<()> {
-    write!(out, "picture")?;
-    for number in settings.to_array() {
+pub fn picture(picture: &Picture, out: &mut dyn Write) -> io::Result<()> {
+    write!(out, "{}", picture.word())?;
+    for number in picture.numbers() {
         write!(out, " {number}")?;
     }
     writeln!(out)
@@ -36,7 +36,7 @@ pub fn rows(unit: &Unit<'_>, out: &mut dyn Write) -> io::Result<()> {
     Ok(())
 }
 
-/// A row in its columns. Accepted units have addresses of six digits at most.
+/// A row in its columns. Accepted units have addresses of seven digits at most.
 fn row_line(address: u64, row: Row) -> [u8; 44] {
     let mut line = [b' '; 44];
     line[43] = b'\n';

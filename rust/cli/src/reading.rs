@@ -2,11 +2,11 @@
 
 use std::io::{self, BufRead};
 
-use colwythar::{write_flags, Refusal, Row, Session, Settings, MAX_FLAGS};
+use colwythar::{Refusal, Row, MAX_FLAGS};
 
 use crate::table::Table;
 use crate::text::{scan, Line, Lines, Malformed, Reason, Subject, Text};
-use crate::{Command, Complaint, Context, Place, Sum, Unit};
+use crate::{Command, Complaint, Context, Picture, Place, Sum, Unit, Units};
 
 /// A unit has at most 1,024 rows of 8 bytes.
 const ROW_BYTES: usize = 8 * 1024;
@@ -46,8 +46,8 @@ pub fn read(
 struct Reader<'a, 'b> {
     command: &'a mut dyn Command,
     context: &'a mut Context<'b>,
-    /// Once a picture line opened it.
-    session: Option<Session>,
+    /// Once a picture line opened them.
+    picture: Option<Box<dyn Units>>,
     /// The table that is not ended yet.
     table: Table,
     /// The flags of the line.
@@ -70,7 +70,7 @@ impl<'a, 'b> Reader<'a, 'b> {
         Self {
             command,
             context,
-            session: None,
+            picture: None,
             table: Table::default(),
             flags: Vec::new(),
             engine_rows: Box::new([0; ROW_BYTES]),
@@ -86,7 +86,7 @@ impl<'a, 'b> Reader<'a, 'b> {
     fn line(&mut self, text: Text<'_>) -> io::Result<()> {
         match scan(text, &mut self.flags) {
             Ok(Line::Blank) => Ok(()),
-            Ok(Line::Picture(settings)) => self.picture(text.number, settings),
+            Ok(Line::Picture(picture)) => self.picture(text.number, picture),
             Ok(Line::Unit(address)) => self.unit(text.number, address.into()),
             Ok(Line::Row(address, row)) => self.row(text.number, address.into(), row),
             Err(malformed) => self.malformed(text.number, malformed),
@@ -94,16 +94,19 @@ impl<'a, 'b> Reader<'a, 'b> {
     }
 
     /// A picture line opens the session.
-    fn picture(&mut self, line: u64, settings: Settings) -> io::Result<()> {
+    fn picture(&mut self, line: u64, picture: Picture) -> io::Result<()> {
         self.end_table()?;
-        if self.session.is_some() {
+        if self.picture.is_some() {
             return self.malformed(line, Reason::Second.into());
         }
-        let opened = Session::open(settings);
-        self.command.picture(&settings, opened.is_ok(), self.context)?;
+        if let Some(reason) = self.command.objection(&picture) {
+            return self.malformed(line, reason.into());
+        }
+        let opened = picture.open();
+        self.command.picture(&picture, opened.is_ok(), self.context)?;
         match opened {
-            Ok(session) => {
-                self.session = Some(session);
+            Ok(units) => {
+                self.picture = Some(units);
                 Ok(())
             }
             Err(refusal) => self.stop(Complaint::Picture { line, refusal }),
@@ -113,11 +116,11 @@ impl<'a, 'b> Reader<'a, 'b> {
     /// A unit line's flags become rows, by the file's one session.
     fn unit(&mut self, line: u64, address: u64) -> io::Result<()> {
         self.end_table()?;
-        let Some(session) = &mut self.session else {
+        let Some(picture) = &mut self.picture else {
             return self.malformed(line, Reason::First.into());
         };
         self.unit_lines = true;
-        match session.unit(address, &self.flags, &mut *self.engine_rows) {
+        match picture.read(address, &self.flags, &mut *self.engine_rows) {
             Ok(count) => {
                 let rows = &self.engine_rows[..8 * count];
                 self.units += 1;
@@ -130,7 +133,7 @@ impl<'a, 'b> Reader<'a, 'b> {
 
     /// A row of the table that is not ended, or the first of the next one.
     fn row(&mut self, line: u64, address: u64, row: Row) -> io::Result<()> {
-        if self.session.is_none() {
+        if self.picture.is_none() {
             return self.malformed(line, Reason::First.into());
         }
         if !self.table.is_of(address) {
@@ -144,12 +147,12 @@ impl<'a, 'b> Reader<'a, 'b> {
 
     /// The table that was not ended, if there was one, is whole: its rows become flags.
     fn end_table(&mut self) -> io::Result<()> {
-        let Some(session) = &self.session else { return Ok(()) };
+        let Some(picture) = &self.picture else { return Ok(()) };
         if self.table.is_empty() {
             return Ok(());
         }
         let (address, rows) = (self.table.address(), self.table.bytes());
-        match write_flags(session.settings(), address, rows, &mut *self.engine_flags) {
+        match picture.turn_back(address, rows, &mut *self.engine_flags) {
             Ok(count) => {
                 let flags = &self.engine_flags[..count];
                 self.units += 1;
@@ -175,7 +178,7 @@ impl<'a, 'b> Reader<'a, 'b> {
         address: u64,
         refusal: Refusal,
     ) -> io::Result<()> {
-        let units = self.session.as_ref().map_or(0, Session::unit_count);
+        let units = self.picture.as_ref().map_or(0, |picture| picture.due().1);
         self.complain(Complaint::Unit { lines, row_line, address, units, refusal })
     }
 
@@ -216,10 +219,10 @@ impl<'a, 'b> Reader<'a, 'b> {
             return Ok(());
         }
         self.end_table()?;
-        let Some(session) = &self.session else {
+        let Some(picture) = &self.picture else {
             return self.complain(Complaint::Nothing);
         };
-        let due = self.unit_lines.then(|| (session.due(), session.unit_count()));
+        let due = self.unit_lines.then(|| picture.due());
         let sum = Sum { units: self.units, rows: self.rows, due };
         self.command.end_of_file(&sum, self.context)
     }

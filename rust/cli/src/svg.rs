@@ -3,7 +3,7 @@
 
 use std::io::{self, Write};
 
-use colwythar::{Row, Settings};
+use colwythar::Row;
 
 /// The space between two pictures, in samples.
 const GAP: u32 = 8;
@@ -29,9 +29,8 @@ pub struct Block {
 
 impl Picture {
     /// A picture without blocks. The settings are accepted ones.
-    pub fn new(settings: &Settings) -> Self {
-        let Settings { ctu, width, height, .. } = *settings;
-        let pipeline_side = settings.pipeline_side();
+    pub fn new(picture: &crate::Picture) -> Self {
+        let ((ctu, pipeline_side), (width, height)) = (picture.sides(), picture.size());
         Self { ctu, pipeline_side, width, height, blocks: Vec::new() }
     }
 }

@@ -2,10 +2,8 @@
 
 use std::io::{self, Write};
 
-use colwythar::Settings;
-
 use super::{Command, Context, Entry, Unit};
-use crate::{output, svg, Complaint};
+use crate::{output, svg, Complaint, Picture};
 
 pub const ENTRY: Entry = Entry {
     name: "draw",
@@ -24,12 +22,12 @@ impl Command for Draw {
     /// A picture with settings that are not accepted has no units, and is not drawn.
     fn picture(
         &mut self,
-        settings: &Settings,
+        picture: &Picture,
         accepted: bool,
         _: &mut Context<'_>,
     ) -> io::Result<()> {
         if accepted {
-            self.pictures.push(svg::Picture::new(settings));
+            self.pictures.push(svg::Picture::new(picture));
         }
         Ok(())
     }

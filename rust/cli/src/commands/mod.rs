@@ -7,9 +7,10 @@ mod table;
 
 use std::io::{self, Write};
 
-use colwythar::{Row, Settings};
+use colwythar::Row;
 
-use crate::Complaint;
+use crate::text::Reason;
+use crate::{Complaint, Picture};
 
 /// All subcommands, in the order of the help text.
 pub const COMMANDS: [Entry; 4] = [table::ENTRY, flags::ENTRY, page::ENTRY, draw::ENTRY];
@@ -35,10 +36,15 @@ pub trait Command {
         Ok(())
     }
 
+    /// Why a picture line is not taken by this subcommand; none where it is.
+    fn objection(&self, _picture: &Picture) -> Option<Reason> {
+        None
+    }
+
     /// The picture line. Where its settings are not accepted, a complaint follows.
     fn picture(
         &mut self,
-        settings: &Settings,
+        picture: &Picture,
         accepted: bool,
         context: &mut Context<'_>,
     ) -> io::Result<()>;

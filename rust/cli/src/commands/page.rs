@@ -5,7 +5,8 @@ use std::io;
 use colwythar::{page, Settings, MAX_PAGE_BYTES};
 
 use super::{Command, Context, Entry, Unit};
-use crate::{output, Complaint};
+use crate::text::Reason;
+use crate::{output, Complaint, Picture};
 
 pub const ENTRY: Entry = Entry {
     name: "page",
@@ -22,8 +23,15 @@ struct Page {
 }
 
 impl Command for Page {
-    fn picture(&mut self, settings: &Settings, _: bool, _: &mut Context<'_>) -> io::Result<()> {
-        self.settings = Some(*settings);
+    /// The engine prints pages in H.266 only.
+    fn objection(&self, picture: &Picture) -> Option<Reason> {
+        matches!(picture, Picture::H265(_)).then_some(Reason::NoPage)
+    }
+
+    fn picture(&mut self, picture: &Picture, _: bool, _: &mut Context<'_>) -> io::Result<()> {
+        if let Picture::H266(settings) = picture {
+            self.settings = Some(*settings);
+        }
         Ok(())
     }
 

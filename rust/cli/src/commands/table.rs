@@ -2,10 +2,8 @@
 
 use std::io;
 
-use colwythar::Settings;
-
 use super::{Command, Context, Entry, Sum, Unit};
-use crate::{printing, Complaint};
+use crate::{printing, Complaint, Picture};
 
 pub const ENTRY: Entry = Entry {
     name: "table",
@@ -26,8 +24,8 @@ impl Command for Table {
         printing::heading(context)
     }
 
-    fn picture(&mut self, settings: &Settings, _: bool, to: &mut Context<'_>) -> io::Result<()> {
-        printing::picture(settings, to.out)
+    fn picture(&mut self, picture: &Picture, _: bool, to: &mut Context<'_>) -> io::Result<()> {
+        printing::picture(picture, to.out)
     }
 
     fn unit(&mut self, unit: &Unit<'_>, context: &mut Context<'_>) -> io::Result<()> {

@@ -1,9 +1,10 @@
 //! What a line says.
 
-use colwythar::{Row, Settings};
+use colwythar::Row;
 
 use super::words::{Word, Words};
 use super::{Reason, Text};
+use crate::Picture;
 
 /// How many flags a unit line has at most.
 const MOST_FLAGS: usize = 65_535;
@@ -14,7 +15,7 @@ pub enum Line {
     /// Nothing, or a comment.
     Blank,
     /// The settings of the picture.
-    Picture(Settings),
+    Picture(Picture),
     /// The flags of the unit with this address.
     Unit(u32),
     /// A row of the unit with this address.
@@ -62,7 +63,8 @@ pub fn scan(text: Text<'_>, flags: &mut Vec<u8>) -> Result<Line, Malformed> {
     let first = words.take()?;
     match first {
         Word::End => Ok(Line::Blank),
-        Word::Name(b"picture") => Ok(picture(words)?),
+        Word::Name(b"picture") => Ok(picture(words, H266)?),
+        Word::Name(b"h265") => Ok(picture(words, H265)?),
         Word::Name(b"unit") => Ok(unit(words, flags)?),
         Word::Name(_) => Err(Reason::Word.into()),
         Word::Colon => Err(Reason::Colon.into()),
@@ -85,18 +87,40 @@ fn row_address(first: Word<'_>) -> Option<u32> {
     }
 }
 
-fn picture(mut words: Words<'_>) -> Result<Line, Reason> {
-    let mut numbers = [0; 8];
+/// A kind of picture line: how many numbers it has, and why another one is not taken.
+struct Kind<const N: usize> {
+    settings: fn([u32; N]) -> Picture,
+    word: Reason,
+    few: Reason,
+    many: Reason,
+}
+
+const H266: Kind<8> = Kind {
+    settings: |numbers| Picture::H266(numbers.into()),
+    word: Reason::PictureWord,
+    few: Reason::PictureFew,
+    many: Reason::PictureMany,
+};
+
+const H265: Kind<4> = Kind {
+    settings: |numbers| Picture::H265(numbers.into()),
+    word: Reason::H265Word,
+    few: Reason::H265Few,
+    many: Reason::H265Many,
+};
+
+fn picture<const N: usize>(mut words: Words<'_>, kind: Kind<N>) -> Result<Line, Reason> {
+    let mut numbers = [0; N];
     let mut count = 0;
     loop {
         let value = match words.take()? {
-            Word::End if count == 8 => return Ok(Line::Picture(numbers.into())),
-            Word::End => return Err(Reason::PictureFew),
+            Word::End if count == N => return Ok(Line::Picture((kind.settings)(numbers))),
+            Word::End => return Err(kind.few),
             Word::Colon => return Err(Reason::Colon),
-            Word::Name(_) => return Err(Reason::PictureWord),
+            Word::Name(_) => return Err(kind.word),
             Word::Number(value) => value,
         };
-        let number = numbers.get_mut(count).ok_or(Reason::PictureMany)?;
+        let number = numbers.get_mut(count).ok_or(kind.many)?;
         *number = value.try_into().map_err(|_| Reason::PictureLarge)?;
         count += 1;
     }

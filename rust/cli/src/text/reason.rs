@@ -25,6 +25,14 @@ pub enum Reason {
     PictureFew,
     /// More numbers than eight.
     PictureMany,
+    /// A word among the numbers of a picture in H.265.
+    H265Word,
+    /// Fewer numbers than four.
+    H265Few,
+    /// More numbers than four.
+    H265Many,
+    /// A picture in H.265, of which no page is printed.
+    NoPage,
     /// A number of a picture that needs more than 32 bits.
     PictureLarge,
     /// No number after `unit`.
@@ -87,6 +95,9 @@ impl Reason {
             Self::PictureMany => {
                 "too many numbers; a picture has eight: CTU MinCb MinQt M MaxBt MaxTt width height"
             }
+            Self::H265Word => "after \"h265\" there are numbers only",
+            Self::H265Few => "too few numbers; \"h265\" has four: CTU MinCb width height",
+            Self::H265Many => "too many numbers; \"h265\" has four: CTU MinCb width height",
             Self::PictureLarge => "a number of a picture is at most 4294967295",
             Self::Flag => "a flag is a number from 0 to 255",
             Self::FlagMany => "a unit line has at most 65535 flags",
@@ -108,13 +119,16 @@ impl Reason {
 impl fmt::Display for Reason {
     fn fmt(&self, f: &mut fmt::Formatter<'_>) -> fmt::Result {
         f.write_str(match self {
-            Self::Word => "a line begins with \"picture\", \"unit\" or a number, a comment with #",
+            Self::Word => {
+                "a line begins with \"picture\", \"h265\", \"unit\" or a number, a comment with #"
+            }
             Self::Byte => "a byte that is no plain text (ASCII)",
             Self::Return => "a carriage return within the line",
             Self::Comment => "a comment has a line of its own, which begins with #",
             Self::Long => "a line has at most 1048576 bytes",
             Self::First => "a picture line is expected before this one",
             Self::Second => "a second picture line; a file has one",
+            Self::NoPage => "there is no page of a picture in H.265",
             Self::Address => "a number is expected after \"unit\"",
             Self::AddressLarge => "a unit's address is at most 4294967295",
             Self::NoColon => "a colon is expected after the unit's address",

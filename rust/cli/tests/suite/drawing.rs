@@ -45,7 +45,7 @@ fn deeper_blocks_are_darker() {
 
 #[test]
 fn a_drawing_of_a_table_is_that_of_the_flags() {
-    for name in ["camera", "edge", "edge-128", "worst"] {
+    for name in ["camera", "edge", "edge-128", "h265", "worst"] {
         let (flags, table) = (sample(&format!("{name}.txt")), sample(&format!("{name}.table")));
         let drawn = run(&["draw".as_ref(), flags.as_os_str()]);
         assert_eq!(drawn, run(&["draw".as_ref(), table.as_os_str()]));

@@ -1,7 +1,8 @@
 //! What a line says, and the first thing that is wrong with it.
 
 use cli::text::{scan, Line, Malformed, Reason, Text};
-use colwythar::{Row, Settings};
+use cli::Picture;
+use colwythar::Row;
 
 fn scanned(line: &str) -> Result<(Line, Vec<u8>), Malformed> {
     let mut flags = vec![7];
@@ -11,13 +12,15 @@ fn scanned(line: &str) -> Result<(Line, Vec<u8>), Malformed> {
 
 #[test]
 fn lines_that_are_taken() {
-    let settings = Settings::from([64, 4, 8, 3, 32, 32, 4_294_967_295, 0]);
+    let h266 = Picture::H266([64, 4, 8, 3, 32, 32, 4_294_967_295, 0].into());
+    let h265 = Picture::H265([64, 8, 4_294_967_295, 0].into());
     let row = Row::from_bytes(&[255, 255, 1, 0, 15, 0, 255, 0]);
     let lines = [
         ("", Line::Blank, vec![]),
         (" \t ", Line::Blank, vec![]),
         ("\t# unit x:", Line::Blank, vec![]),
-        ("picture 64 4 8 3 32 32 4294967295 0", Line::Picture(settings), vec![]),
+        ("picture 64 4 8 3 32 32 4294967295 0", Line::Picture(h266), vec![]),
+        ("h265 64\t8 4294967295 0 ", Line::Picture(h265), vec![]),
         ("unit 0:", Line::Unit(0), vec![]),
         ("unit 4294967295 :001 0\t255", Line::Unit(4_294_967_295), vec![1, 0, 255]),
         ("7 65535 1 32768 1 255 0 ", Line::Row(7, row), vec![]),
@@ -40,6 +43,14 @@ fn the_first_thing_that_is_wrong() {
         ("picture 1 2 3 4 5 6 7 8 9 #", Reason::PictureMany),
         ("picture", Reason::PictureFew),
         ("picture 1#", Reason::Comment),
+        ("H265 64 8 64 64", Reason::Word),
+        ("h265: 64 8 64 64", Reason::Colon),
+        ("h265 64 x :", Reason::H265Word),
+        ("h265 4294967296 x", Reason::PictureLarge),
+        ("h265 64 8 64 64 1 #", Reason::H265Many),
+        ("h265 64 8 64", Reason::H265Few),
+        ("h265", Reason::H265Few),
+        ("h265 64#", Reason::Comment),
         ("unit", Reason::Address),
         ("unit :", Reason::Address),
         ("unit x", Reason::Address),

@@ -3,6 +3,7 @@
 mod command_line;
 mod drawing;
 mod files;
+mod h265;
 mod limits;
 mod lines;
 mod output;

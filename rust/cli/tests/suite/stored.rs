@@ -11,12 +11,12 @@ const COMMANDS: [&str; 3] = ["table", "flags", "page"];
 
 #[test]
 fn data_prints_what_is_stored() {
-    assert_eq!(check_folder(&data("")), (57, 85));
+    assert_eq!(check_folder(&data("")), (67, 97));
 }
 
 #[test]
 fn samples_print_what_is_stored() {
-    assert_eq!(check_folder(&sample("")), (19, 22));
+    assert_eq!(check_folder(&sample("")), (21, 24));
 }
 
 /// Checks each text file of a folder. Answers how many there are, and how many runs were compared.
