@@ -18,8 +18,8 @@ const QUADS: h266::Settings = [128, 4, 4, 0, 128, 64, 1920, 1080];
 const INSIDE: u64 = 120;
 
 /// One unit with its flags and rows.
-pub struct Unit {
-    pub settings: h266::Settings,
+pub struct Unit<S = h266::Settings> {
+    pub settings: S,
     pub address: u64,
     pub flags: Vec<u8>,
     pub rows: Vec<u8>,
@@ -41,7 +41,9 @@ impl Unit {
         let params = h266::Params::new(&self.settings).expect("valid settings");
         params.root(self.address).is_some_and(|root| params.inside(&root))
     }
+}
 
+impl<S> Unit<S> {
     /// How many rows it has.
     pub fn row_count(&self) -> usize {
         self.rows.len() / 8
@@ -49,13 +51,18 @@ impl Unit {
 }
 
 /// A class of units.
-pub struct Class {
+pub struct Class<S = h266::Settings> {
     pub name: &'static str,
     pub title: &'static str,
-    pub units: Vec<Unit>,
+    pub units: Vec<Unit<S>>,
 }
 
-impl Class {
+impl<S> Class<S> {
+    /// A class of units that are made one after the other.
+    pub fn of(name: &'static str, title: &'static str, mut unit: impl FnMut() -> Unit<S>) -> Self {
+        Self { name, title, units: (0..UNITS).map(|_| unit()).collect() }
+    }
+
     /// How many rows a unit has, in the mean.
     pub fn mean_rows(&self) -> f64 {
         let rows: usize = self.units.iter().map(Unit::row_count).sum();
@@ -68,15 +75,11 @@ pub fn all() -> [Class; 5] {
     [one_row(), mixed(), about_64(), full(), quads()]
 }
 
-fn class(name: &'static str, title: &'static str, mut unit: impl FnMut() -> Unit) -> Class {
-    Class { name, title, units: (0..UNITS).map(|_| unit()).collect() }
-}
-
 /// Units wholly inside the picture that are one block, though they might have been split: one flag,
 /// which is 0. CTU 128 and 64.
 fn one_row() -> Class {
     let mut rng = Rng::new(1);
-    class("1", "one row", || {
+    Class::of("1", "one row", || {
         random(&mut rng, &[Style::Shallow], |unit| {
             unit.settings[0] >= 64 && unit.is_inside() && unit.flags == [0]
         })
@@ -86,7 +89,7 @@ fn one_row() -> Class {
 /// Random units of 20 to 120 rows, all settings and edges mixed.
 fn mixed() -> Class {
     let mut rng = Rng::new(2);
-    class("mixed", "20 to 120 rows", || {
+    Class::of("mixed", "20 to 120 rows", || {
         random(&mut rng, &Style::ALL, |unit| (20..=120).contains(&unit.row_count()))
     })
 }
@@ -94,7 +97,7 @@ fn mixed() -> Class {
 /// Random units of 56 to 72 rows.
 fn about_64() -> Class {
     let mut rng = Rng::new(3);
-    class("64", "about 64 rows", || {
+    Class::of("64", "about 64 rows", || {
         random(&mut rng, &Style::ALL, |unit| (56..=72).contains(&unit.row_count()))
     })
 }
@@ -102,7 +105,7 @@ fn about_64() -> Class {
 /// Units of the recorder that are all blocks of 4 by 4, by different trees.
 fn full() -> Class {
     let mut rng = Rng::new(4);
-    class("1024", "1,024 rows", || {
+    Class::of("1024", "1,024 rows", || {
         let address = rng.draw() % INSIDE;
         let unit = Unit::grow(&mut rng, RECORDER, address, Style::Smallest);
         assert_eq!(unit.row_count(), 1024);
@@ -114,7 +117,7 @@ fn full() -> Class {
 /// address only.
 fn quads() -> Class {
     let mut rng = Rng::new(5);
-    class("quads", "1,024 rows by quads", || {
+    Class::of("quads", "1,024 rows by quads", || {
         let address = rng.draw() % INSIDE;
         let unit = Unit::grow(&mut rng, QUADS, address, Style::Smallest);
         assert_eq!((unit.row_count(), unit.flags.as_slice()), (1024, &[1; 341][..]));

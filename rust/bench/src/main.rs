@@ -1,5 +1,5 @@
-//! The speed of the engine beside that of two unproved decoders, in one run: `h266`, plain safe
-//! Rust from the standard's text, and `tuned`, safe Rust driven by hand.
+//! The speed of the engine beside that of unproved decoders, in one run: `h266` and `h265`, plain safe
+//! Rust from the standards' texts, and `tuned`, safe Rust driven by hand.
 //!
 //! `bench` prints Markdown tables; `bench callgrind ...` runs one kind of call without a clock, so
 //! that its instructions can be counted; `bench search ...` looks for broken tables that take the
@@ -10,6 +10,7 @@ mod broken;
 mod callgrind;
 mod camera;
 mod classes;
+mod quads;
 mod search;
 mod timing;
 mod work;
@@ -22,12 +23,13 @@ usage: bench
        bench search SECONDS SEED
 
 Without arguments: times reading, the way back and the page for five classes of units, the refusal
-of broken tables, and a worst-case second of four cameras, and prints Markdown tables. Each side is
-warmed up; the sides take turns within each round, and the best round counts.
+of broken tables, a worst-case second of four cameras, and units in H.265, and prints Markdown
+tables. Each side is warmed up; the sides take turns within each round, and the best round counts.
 
 callgrind: makes CALLS calls of one kind, without a clock. WORK is a side (engine, h266 or
 tuned) and a way (read, write or page), like engine-read; tuned has no page. CLASS is 1, mixed, 64,
-1024 or quads. Calls go round the 256 units of the class, so a multiple of 256 weighs them equally.
+1024 or quads. In H.265 a side is engine or h265, a way read or write, and CLASS h265-1 or h265-64.
+Calls go round the 256 units of the class, so a multiple of 256 weighs them equally.
 To count only the instructions of the calls:
 
   valgrind --tool=callgrind --callgrind-out-file=/dev/null \\
@@ -50,6 +52,7 @@ fn main() -> ExitCode {
             timing::print_pages();
             broken::print_refusals();
             camera::print_second();
+            quads::print_table();
             ExitCode::SUCCESS
         }
         ["callgrind", work, class, calls] => match callgrind::run(work, class, calls) {

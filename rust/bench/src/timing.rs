@@ -29,7 +29,7 @@ pub fn print_table() {
 
 fn print_line(class: &Class, way: Way) {
     let rows = class.mean_rows();
-    let times = measure(class, Side::ALL.map(|side| (side, way)));
+    let times = measure(class, Side::ALL.map(|side| work(side, way)));
     print!("| {} | {} | {rows:.1} |", class.title, way.title());
     for time in times {
         print!(" {time:.1} | {:.2} |", time / rows);
@@ -51,8 +51,8 @@ pub fn print_pages() {
 
 fn print_page_line(class: &Class) {
     let rows = class.mean_rows();
-    let (engine, h266) = ((Side::Engine, Way::Page), (Side::H266, Way::Page));
-    let [back, engine, h266] = measure(class, [(Side::Engine, Way::Write), engine, h266]);
+    let (engine, h266) = (work(Side::Engine, Way::Page), work(Side::H266, Way::Page));
+    let [back, engine, h266] = measure(class, [work(Side::Engine, Way::Write), engine, h266]);
     print!("| {} | {rows:.1} |", class.title);
     for time in [engine, h266] {
         print!(" {time:.1} | {:.2} |", time / rows);
@@ -60,21 +60,24 @@ fn print_page_line(class: &Class) {
     println!(" {:.2} | {:.2} |", h266 / engine, engine / back);
 }
 
+fn work(side: Side, way: Way) -> Work {
+    Work::of(side, way).expect("a way of this side")
+}
+
 /// Nanoseconds of a unit for each kind of call, after a warm-up.
-fn measure<const N: usize>(class: &Class, kinds: [(Side, Way); N]) -> [f64; N] {
-    let works = kinds.map(|(side, way)| Work::of(side, way).expect("a way of this side"));
-    let passes = works.map(|work| warm_up(class, work));
+pub fn measure<S, const N: usize>(class: &Class<S>, works: [Work<S>; N]) -> [f64; N] {
+    let passes = works.each_ref().map(|work| warm_up(class, work));
     let mut best = [f64::MAX; N];
     for _ in 0..ROUNDS {
         for kind in 0..N {
-            best[kind] = best[kind].min(time(class, passes[kind], works[kind]));
+            best[kind] = best[kind].min(time(class, passes[kind], &works[kind]));
         }
     }
     best
 }
 
 /// Calls for the time of a round, and answers how many passes that took.
-fn warm_up(class: &Class, work: Work) -> usize {
+fn warm_up<S>(class: &Class<S>, work: &Work<S>) -> usize {
     let (start, mut passes) = (Instant::now(), 0);
     while start.elapsed() < ROUND_TIME {
         time(class, 1, work);
@@ -84,7 +87,7 @@ fn warm_up(class: &Class, work: Work) -> usize {
 }
 
 /// Nanoseconds of a unit over so many passes through the class.
-fn time(class: &Class, passes: usize, work: Work) -> f64 {
+fn time<S>(class: &Class<S>, passes: usize, work: &Work<S>) -> f64 {
     let mut buffer = Buffer::new(work.room);
     let start = Instant::now();
     for _ in 0..passes {

@@ -54,7 +54,7 @@ impl Way {
     }
 
     /// Room for what any unit gives.
-    fn room(self) -> usize {
+    pub fn room(self) -> usize {
         match self {
             Self::Read | Self::Write => ROOM,
             Self::Page => MAX_PAGE_BYTES,
@@ -65,12 +65,11 @@ impl Way {
 /// A call on a unit into a lent buffer. All sides are called through such a pointer, so that none
 /// is inlined into the loop. The answer's two numbers are passed in registers: an array would be
 /// copied by one load, which waits until the two stores before it have left the core.
-pub type Call = fn(&Unit, &mut [u8]) -> (u64, u64);
+pub type Call<S = h266::Settings> = fn(&Unit<S>, &mut [u8]) -> (u64, u64);
 
 /// A kind of call, and the length of the buffer that it is lent.
-#[derive(Clone, Copy)]
-pub struct Work {
-    pub call: Call,
+pub struct Work<S = h266::Settings> {
+    pub call: Call<S>,
     pub room: usize,
 }
 
@@ -120,7 +119,7 @@ impl Buffer {
 
     /// Makes one call into this buffer.
     #[inline(always)]
-    pub fn lend(&mut self, call: Call, unit: &Unit) {
+    pub fn lend<S>(&mut self, call: Call<S>, unit: &Unit<S>) {
         let answer = call(black_box(unit), black_box(&mut self.0[..]));
         assert!(black_box(answer.0) == 0, "a legal unit was refused");
         black_box(answer.1);
