@@ -145,25 +145,34 @@ fn other_limits<S: Coding>(engine: &mut Engine<S>, rng: &mut Rng, unit: &Unit<S>
     pages::beside(engine, rng, &settings, unit.address, &unit.rows, ROOM);
 }
 
-/// Addresses from the unit count on, and other units' addresses for this unit's data.
+/// Addresses from the unit count on, and other units' addresses for this unit's data, which may be
+/// damaged too.
 fn no_such_unit<S: Coding>(engine: &mut Engine<S>, rng: &mut Rng, unit: &Unit<S>) {
     let count = unit.settings.unit_count();
-    let beyond = rng.pick(&[count, count + 1, count + (1 << 32), u64::MAX]);
+    let high = 1 << 32;
+    let beyond = rng.pick(&[count, count + 1, count + high, unit.address + high, u64::MAX]);
     let other = rng.draw() % count;
+    let (flags, rows) = maybe_damaged(rng, unit);
     for address in [beyond, other] {
-        engine.read(rng, &unit.settings, address, &unit.flags, ROOM);
-        pages::beside(engine, rng, &unit.settings, address, &unit.rows, ROOM);
+        engine.read(rng, &unit.settings, address, &flags, ROOM);
+        pages::beside(engine, rng, &unit.settings, address, &rows, ROOM);
     }
 }
 
-/// Settings for each refusal, with data that may be damaged too, which is seen later.
-fn broken_settings<S: Coding>(engine: &mut Engine<S>, rng: &mut Rng, unit: &Unit<S>) {
-    let settings = S::invalid(rng);
+/// The unit's flags and rows, damaged or not.
+fn maybe_damaged<S>(rng: &mut Rng, unit: &Unit<S>) -> (Vec<u8>, Vec<u8>) {
     let (mut flags, mut rows) = (unit.flags.clone(), unit.rows.clone());
     if rng.percent(50) {
         damage::flags(rng, &mut flags);
         damage::rows(rng, &mut rows);
     }
+    (flags, rows)
+}
+
+/// Settings for each refusal, with data that may be damaged too, which is seen later.
+fn broken_settings<S: Coding>(engine: &mut Engine<S>, rng: &mut Rng, unit: &Unit<S>) {
+    let settings = S::invalid(rng);
+    let (flags, rows) = maybe_damaged(rng, unit);
     let address = rng.pick(&[0, unit.address, u64::MAX]);
     engine.open(rng, &settings);
     let lent = room(rng, rows.len());

@@ -91,6 +91,9 @@ fn tables_that_stop_being_a_tree() {
     refused_back(&ONE, &table(&P2), 4, 17, 5);
     // A tree of H.266: halves.
     refused_back(&ONE, &table(&[(0, 0, 5, 6, 0, 1), (32, 0, 5, 6, 0, 1)]), 9, 16, 0);
+    // A block over the edge.
+    let edge = Settings { width: 56, ..ONE };
+    refused_back(&edge, &table(&[(0, 0, 6, 6, 0, 0)]), 9, 16, 0);
     // Smaller than the smallest side.
     let blocks = Settings { min_cb: 64, ..ONE };
     refused_back(&blocks, &table(&P2), 9, 16, 0);
