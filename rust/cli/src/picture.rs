@@ -74,7 +74,7 @@ pub trait Units {
     fn turn_back(&self, address: u64, rows: &[u8], flags: &mut [u8]) -> Result<usize, Refusal>;
 
     /// The address that is due, and how many units there are.
-    fn due(&self) -> (u64, u64);
+    fn progress(&self) -> (u64, u64);
 }
 
 impl<S: Coding> Units for Session<S> {
@@ -86,7 +86,7 @@ impl<S: Coding> Units for Session<S> {
         write_flags(self.settings(), address, rows, flags)
     }
 
-    fn due(&self) -> (u64, u64) {
-        (Self::due(self), self.unit_count())
+    fn progress(&self) -> (u64, u64) {
+        (self.due(), self.unit_count())
     }
 }

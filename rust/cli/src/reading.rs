@@ -178,7 +178,7 @@ impl<'a, 'b> Reader<'a, 'b> {
         address: u64,
         refusal: Refusal,
     ) -> io::Result<()> {
-        let units = self.picture.as_ref().map_or(0, |picture| picture.due().1);
+        let units = self.picture.as_ref().map_or(0, |picture| picture.progress().1);
         self.complain(Complaint::Unit { lines, row_line, address, units, refusal })
     }
 
@@ -222,7 +222,7 @@ impl<'a, 'b> Reader<'a, 'b> {
         let Some(picture) = &self.picture else {
             return self.complain(Complaint::Nothing);
         };
-        let due = self.unit_lines.then(|| picture.due());
+        let due = self.unit_lines.then(|| picture.progress());
         let sum = Sum { units: self.units, rows: self.rows, due };
         self.command.end_of_file(&sum, self.context)
     }

@@ -4,6 +4,7 @@
 mod h265;
 mod pages;
 mod stops;
+mod without_cuts;
 
 use colwythar::max_flags_of_rows;
 use differential::{calls, sessions, small, Engine, Entry};
