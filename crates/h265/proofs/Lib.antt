@@ -1,1 +1,2 @@
+pub mod QuadNodes
 pub mod Sessions

@@ -1,3 +1,4 @@
 pub mod Calls
 pub mod Session
+pub mod QuadNodes
 pub mod Demand3

@@ -15,7 +15,7 @@ use Rattle.laws.specs.Reached.{Reached, begins, goes-on}
 use Rattle.laws.specs.Good.{Good}
 use Rattle.laws.proofs.Edge.{good-root, good-kids, edge-has-open-split}
 
-every-in : {A : Type 0} {P : A → Type 0} {a : A} {all : List A} → Every P all → List·Memᴰ a all → P a
+pub every-in : {A : Type 0} {P : A → Type 0} {a : A} {all : List A} → Every P all → List·Memᴰ a all → P a
 every-in {A} {P} {a} (every-more {a = b} {rest = rest} p ps) m = go (every-in ps) (List·Memᴰ·cases-cons m)
   where
     go : (List·Memᴰ a rest → P a) → (a ≡ b) ⊎ List·Memᴰ a rest → P a
