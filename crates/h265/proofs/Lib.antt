@@ -1,2 +1,3 @@
 pub mod QuadNodes
 pub mod Sessions
+pub mod H265

@@ -2,3 +2,4 @@ pub mod Calls
 pub mod Session
 pub mod QuadNodes
 pub mod Demand3
+pub mod H265
