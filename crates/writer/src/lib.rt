@@ -36,19 +36,26 @@ fn write_all(l: Limits, root: Node, rows: &[u8], flags: &mut [u8]) -> Answer
     }
 }
 
-// The way back of a table of whole rows, or refusal 15; a root that is a leaf needs no walk.
-fn write_rows(l: Limits, root: Node, rows: &[u8], flags: &mut [u8]) -> Answer
+// The way back of a table of whole rows by a walk, or refusal 15.
+fn walk_rows(l: Limits, root: Node, rows: &[u8], flags: &mut [u8]) -> Answer
     requires { ⌜ Rooted (luma l) root ⌝ }
     ensures { λ r. ⌜ Meets (writeRows (luma l) root (now (rows .entry)) (now (flags .entry))) r (now (flags .exit)) ⌝ }
 {
     if rows.len() % 8 != 0 {
         return Answer::Refused(15, rows.len() / 8);
     }
+    write_all(l, root, rows, flags)
+}
+
+// The way back of a table of whole rows, or refusal 15; a root that is a leaf needs no walk.
+fn write_rows(l: Limits, root: Node, rows: &[u8], flags: &mut [u8]) -> Answer
+    requires { ⌜ Rooted (luma l) root ⌝ }
+    ensures { λ r. ⌜ Meets (writeRows (luma l) root (now (rows .entry)) (now (flags .entry))) r (now (flags .exit)) ⌝ }
+{
     if test::is_leaf(l, root, rows) {
-        deliver::leaf_flags(test::leaf_splits(l, root), flags)
-    } else {
-        write_all(l, root, rows, flags)
+        return deliver::leaf_flags(test::leaf_splits(l, root), flags);
     }
+    walk_rows(l, root, rows, flags)
 }
 
 // Turns the rows of the unit at an address of an H.266 picture back: answers the number of its flags, which are then the
@@ -60,17 +67,6 @@ pub fn write_flags(s: Settings, address: usize, rows: &[u8], flags: &mut [u8]) -
         Located::Refused(number) => Answer::Refused(number, 0),
         Located::At(q) => write_rows(unit::limits(s), unit::root(q), rows, flags),
     }
-}
-
-// The way back of a table of whole rows by a walk, or refusal 15.
-fn walk_rows(l: Limits, root: Node, rows: &[u8], flags: &mut [u8]) -> Answer
-    requires { ⌜ Rooted (luma l) root ⌝ }
-    ensures { λ r. ⌜ Meets (writeRows (luma l) root (now (rows .entry)) (now (flags .entry))) r (now (flags .exit)) ⌝ }
-{
-    if rows.len() % 8 != 0 {
-        return Answer::Refused(15, rows.len() / 8);
-    }
-    write_all(l, root, rows, flags)
 }
 
 // The way back of the unit at an address, by settings and the refusal of their check: H.265's. It shares the walk with
