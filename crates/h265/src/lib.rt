@@ -15,13 +15,8 @@ ghost use Rattle.h265.specs.Calls.{readUnit, writeFlags};
 pub fn read_unit(s: Settings, address: usize, flags: &[u8], rows: &mut [u8]) -> Answer
     ensures { λ r. ⌜ Meets (readUnit s address (now (flags .entry)) (now (rows .entry))) r (now (rows .exit)) ⌝ }
 {
-    reader::read_checked(
-        h265settings::refusal(s),
-        h265settings::as_luma(s),
-        address,
-        flags,
-        rows,
-    )
+    let refusal = h265settings::refusal(s);
+    reader::read_checked(refusal, h265settings::as_luma(s), address, flags, rows)
 }
 
 // Turns the rows of the unit at an address back: answers the number of its flags, which are then the first bytes of the
@@ -29,11 +24,6 @@ pub fn read_unit(s: Settings, address: usize, flags: &[u8], rows: &mut [u8]) -> 
 pub fn write_flags(s: Settings, address: usize, rows: &[u8], flags: &mut [u8]) -> Answer
     ensures { λ r. ⌜ Meets (writeFlags s address (now (rows .entry)) (now (flags .entry))) r (now (flags .exit)) ⌝ }
 {
-    writer::write_checked(
-        h265settings::refusal(s),
-        h265settings::as_luma(s),
-        address,
-        rows,
-        flags,
-    )
+    let refusal = h265settings::refusal(s);
+    writer::write_checked(refusal, h265settings::as_luma(s), address, rows, flags)
 }
