@@ -55,6 +55,7 @@ fn multiple(n: u32, m: u32) -> bool
     n & (m - 1) == 0
 }
 
+// Whether a width or a height is refused; H.265's settings ask it too.
 pub fn bad_length(mincb: u32, n: u32) -> bool
     requires { ⌜ mincb ≡ 2 ^ exponent mincb ⌝ }
     ensures { λ r. ⌜ r ≡ badLength mincb n ⌝ }
