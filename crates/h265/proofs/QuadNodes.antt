@@ -27,7 +27,7 @@ use Rattle.h265settings.proofs.Sound.{h265-sound}
 use Rattle.h265.specs.QuadNodes.{Said, QuadNode, QuadNodes}
 
 -- the rights of a node without cuts
-abbrev quadRights : Bool → Bool → Rights
+abbrev pub quadRights : Bool → Bool → Rights
 quadRights within quad = record { within = within; quad = quad; binary = λ d. false; ternary = λ d. false }
 
 -- a test before one that fails
@@ -49,7 +49,7 @@ module _ (l : Limits) (flat : l .maxmtt ≡ 0) (n : Node) (m : n .mtt ≡ 0) (o 
   unfolding ternaryOpen
   no-ternary d = rw (no-depth, false-last _ _ _)
 
-  quad-rights : rightsOf (luma l) n ≡ quadRights (inside l n) (ltb (l .minqt) (n .w))
+  pub quad-rights : rightsOf (luma l) n ≡ quadRights (inside l n) (ltb (l .minqt) (n .w))
   unfolding rightsOf
   quad-rights = same (ap (λ x. eqb x 0 && ltb (l .minqt) (n .w)) m) (fun-ext no-binary) (fun-ext no-ternary)
     where
@@ -60,27 +60,27 @@ module _ (l : Limits) (flat : l .maxmtt ≡ 0) (n : Node) (m : n .mtt ≡ 0) (o 
 -- ---- above all cuts, everywhere
 
 -- above all cuts, and not lifted
-abbrev Flat : Node → Type 0
+abbrev pub Flat : Node → Type 0
 Flat n = (n .mtt ≡ 0) × (n .offset ≡ 0)
 
-flat-kids : (l : Limits) (n : Node) → Every Flat (children l n Quad)
+quad-kids : (l : Limits) (n : Node) → Every Flat (children l n Quad)
 unfolding children childrenFrom shares child childMtt childOffset
-flat-kids l n = every-more (refl, refl) (every-more (refl, refl) (every-more (refl, refl) (every-more (refl, refl) every-none)))
+quad-kids l n = every-more (refl, refl) (every-more (refl, refl) (every-more (refl, refl) (every-more (refl, refl) every-none)))
 
-no-kids : (l : Limits) (n : Node) → Every Flat (children l n Leaf)
+leaf-kids : (l : Limits) (n : Node) → Every Flat (children l n Leaf)
 unfolding children childrenFrom shares
-no-kids l n = every-none
+leaf-kids l n = every-none
 
 module _ (l : Limits) (flat : l .maxmtt ≡ 0) where
-  kids : (n : Node) → Flat n → (d : Decision) → allows (rightsOf (luma l) n) d ≡ true → Every Flat (children l n d)
-  kids n f Leaf ok = no-kids l n
-  kids n f Quad ok = flat-kids l n
-  kids n f (Binary d) ok = clash ok (ap (λ (r : Rights). r .binary d) (quad-rights l flat n (f .0) (f .1)))
-  kids n f (Ternary d) ok = clash ok (ap (λ (r : Rights). r .ternary d) (quad-rights l flat n (f .0) (f .1)))
+  pub flat-kids : (n : Node) → Flat n → (d : Decision) → allows (rightsOf (luma l) n) d ≡ true → Every Flat (children l n d)
+  flat-kids n f Leaf ok = leaf-kids l n
+  flat-kids n f Quad ok = quad-kids l n
+  flat-kids n f (Binary d) ok = clash ok (ap (λ (r : Rights). r .binary d) (quad-rights l flat n (f .0) (f .1)))
+  flat-kids n f (Ternary d) ok = clash ok (ap (λ (r : Rights). r .ternary d) (quad-rights l flat n (f .0) (f .1)))
 
   reached-flat : {root n : Node} → Flat root → Reached (luma l) root n → Flat n
   reached-flat r (begins here) = r
-  reached-flat r (goes-on {n = n} d from ok m here) = every-in (kids n (reached-flat r from) d ok) m
+  reached-flat r (goes-on {n = n} d from ok m here) = every-in (flat-kids n (reached-flat r from) d ok) m
 
 -- ---- the decisions and their flags
 

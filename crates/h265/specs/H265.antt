@@ -10,7 +10,6 @@ use Rattle.laws.specs.Geometry.{InOneCell, pipelineSide}
 use Rattle.laws.specs.CellOrder.{CellByCell}
 use Rattle.unit.specs.declared.Answer.the-variants.{Accepted}
 use Rattle.unit.specs.Units.{refusalIn}
-use Rattle.unit.specs.Bounds.{mostFlags, Bounded}
 use Rattle.unit.specs.Demand2.{Exact}
 use Rattle.unit.specs.Exactly.{Bytes}
 use Rattle.unit.specs.Faults.{ReadFault, TurnFault, readNumbers, turnNumbers, Decides}
@@ -28,6 +27,7 @@ use Rattle.h265.specs.declared.session.Opened.the-variants.{Fresh, Refus
 use Rattle.h265.specs.Calls.{readUnit, writeFlags}
 use Rattle.h265.specs.Session.{opening, unitCall, following}
 use Rattle.h265.specs.QuadNodes.{QuadNodes}
+use Rattle.h265.specs.Bounds.{Bounds}
 use Rattle.h265.specs.Demand3.{coding, Demand3}
 
 -- demand 1: what is refused, with its number and place, in which order, and nothing else; a refusal leaves buffers and session as they were
@@ -77,8 +77,7 @@ pub record H265 : Type 0 where
   pub nodes : QuadNodes
   pub refuses : Refuses
   pub units : (s : Settings) (a : ℕ) → refusalIn (unitsOf s) a ≡ 0 → UnitOf s a
-  -- no unit has more rows or flags, and buffers for so many are never too short
-  pub bounds : (s : Settings) (a : ℕ) → Bounded 1024 (mostFlags (s .ctu)) (unitsOf s) a
+  pub bounds : Bounds
   -- R-14 of an accepted reading
   pub order : (s : Settings) (a : ℕ) (flags buffer : List ℕ) (count : ℕ) → readUnit s a flags buffer .answer ≡ Accepted count
       → InOrder s (rowsAt count (readUnit s a flags buffer .buffer) 0)
