@@ -5,7 +5,7 @@
 int main(void) {
     const uint32_t settings[4] = {64, 8, 64, 64};
     const uint8_t flags[] = {1, 0, 0, 0, 0};
-    uint8_t rows[COLWYTHAR_MAX_ROW_BYTES], again[COLWYTHAR_MAX_FLAGS];
+    uint8_t rows[COLWYTHAR_H265_MAX_ROW_BYTES], again[COLWYTHAR_H265_MAX_FLAGS];
     uint64_t answer[2];
     colwythar_h265_read_unit(settings, 0, flags, sizeof flags, rows, sizeof rows, answer);
     if (answer[0] == COLWYTHAR_ACCEPTED)

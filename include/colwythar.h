@@ -36,6 +36,12 @@ extern "C" {
 #define COLWYTHAR_MAX_ROW_BYTES 8192
 #define COLWYTHAR_MAX_FLAGS 1786
 
+/* The same for units of H.265. Proved, too: with N = CTU side / MinCb a unit has at most N x N rows and (N x N - 1) / 3 flags,
+ * and for each CTU side and MinCb some unit has so many. These are the numbers for 64 and 8. */
+#define COLWYTHAR_H265_MAX_ROWS 64
+#define COLWYTHAR_H265_MAX_ROW_BYTES 512
+#define COLWYTHAR_H265_MAX_FLAGS 21
+
 /* The most flags of a unit of H.266, by its CTU side 32, 64 or 128. Proved: no unit has more, and some unit has so many:
  * one of 32 by 32 or 64 by 64, halved vertically and horizontally in turn down to blocks of 8 by 4, or four such quarters of
  * 64 by 64 (settings 32 4 8 6 32 32 32 32, 64 4 8 8 64 64 64 64, and 128 4 8 8 128 64 128 128). */

@@ -2,14 +2,14 @@
 
 use std::io::{self, BufRead};
 
-use colwythar::{Refusal, Row, MAX_FLAGS};
+use colwythar::{Refusal, Row, MAX_FLAGS, MAX_ROWS};
 
 use crate::table::Table;
 use crate::text::{scan, Line, Lines, Malformed, Reason, Subject, Text};
 use crate::{Command, Complaint, Context, Picture, Place, Sum, Unit, Units};
 
-/// A unit has at most 1,024 rows of 8 bytes.
-const ROW_BYTES: usize = 8 * 1024;
+/// The bytes of the most rows that a unit has.
+const ROW_BYTES: usize = 8 * MAX_ROWS;
 
 /// Reading a file came to an end before the file did.
 #[derive(Debug)]

@@ -5,12 +5,12 @@
 //! side; where it reaches out of the picture it is split without one. The MTT depth of a row is 0.
 //!
 //! ```
-//! use colwythar::h265::{read_unit, write_flags, Session, Settings};
+//! use colwythar::h265::{read_unit, write_flags, Session, Settings, MAX_ROWS};
 //! use colwythar::rows;
 //!
 //! let settings = Settings { ctu: 64, min_cb: 8, width: 72, height: 64 };
 //! let mut session = Session::open(settings)?;
-//! let mut table = [0; 8 * 64];
+//! let mut table = [0; 8 * MAX_ROWS];
 //! let count = session.unit(0, &[1, 0, 0, 0, 0], &mut table)?;
 //! let sides: Vec<_> = rows(&table[..8 * count]).map(|row| row.width()).collect();
 //! assert_eq!(sides, [32; 4]);
@@ -21,7 +21,7 @@
 //! assert!(session.is_complete());
 //!
 //! // Single units need no session.
-//! let mut again = [0; 8 * 64];
+//! let mut again = [0; 8 * MAX_ROWS];
 //! assert_eq!(read_unit(&settings, 1, &[], &mut again), Ok(8));
 //! assert_eq!(again, table);
 //! assert_eq!(write_flags(&settings, 1, &again[..8 * 8], &mut []), Ok(0));
@@ -33,6 +33,14 @@
 
 use crate::{coding, Refusal};
 pub use crate::{read_unit, write_flags};
+
+/// No unit in H.265 has more rows: 64 by 64 samples in blocks of 8 by 8. By the settings it is
+/// [`Settings::max_rows`].
+pub const MAX_ROWS: usize = 64;
+
+/// No unit in H.265 has more flags: one for each node above those blocks. By the settings it is
+/// [`Settings::max_flags`].
+pub const MAX_FLAGS: usize = 21;
 
 /// A picture in H.265 being read: its settings and the address that is due.
 pub type Session = crate::Session<Settings>;
@@ -76,6 +84,32 @@ impl Settings {
     #[inline]
     pub fn pipeline_side(&self) -> u32 {
         self.ctu.min(64)
+    }
+
+    /// The most rows of a unit: the blocks of the smallest side in it.
+    ///
+    /// A row buffer of 8 bytes for each is never too short. Nothing is checked here.
+    ///
+    /// ```
+    /// use colwythar::h265::{Settings, MAX_FLAGS, MAX_ROWS};
+    ///
+    /// let settings = Settings::from([64, 8, 1920, 1080]);
+    /// assert_eq!((settings.max_rows(), settings.max_flags()), (MAX_ROWS, MAX_FLAGS));
+    /// let coarse = Settings { min_cb: 32, ..settings };
+    /// assert_eq!((coarse.max_rows(), coarse.max_flags()), (4, 1));
+    /// ```
+    #[inline]
+    pub fn max_rows(&self) -> usize {
+        let across = self.ctu.checked_div(self.min_cb).unwrap_or(0) as usize;
+        across.saturating_mul(across)
+    }
+
+    /// The most flags of a unit: the nodes above the blocks of the smallest side.
+    ///
+    /// A flag buffer of this length is never too short. Nothing is checked here.
+    #[inline]
+    pub fn max_flags(&self) -> usize {
+        self.max_rows().saturating_sub(1) / 3
     }
 
     /// How many units the picture has; one at the right or bottom edge counts as one.

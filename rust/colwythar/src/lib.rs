@@ -7,13 +7,13 @@
 //! A picture is read unit by unit through a [`Session`]:
 //!
 //! ```
-//! use colwythar::{rows, Session, Settings};
+//! use colwythar::{rows, Session, Settings, MAX_ROWS};
 //!
 //! let settings = Settings {
 //!     ctu: 64, min_cb: 4, min_qt: 8, max_mtt: 3, max_bt: 32, max_tt: 32, width: 128, height: 64,
 //! };
 //! let mut session = Session::open(settings)?;
-//! let mut table = [0u8; 8 * 1024];
+//! let mut table = [0u8; 8 * MAX_ROWS];
 //!
 //! let count = session.unit(0, &[1, 0, 0, 0, 0], &mut table)?;
 //! let blocks: Vec<_> = rows(&table[..8 * count]).collect();
@@ -48,8 +48,11 @@ pub use row::{rows, Row};
 pub use session::Session;
 pub use settings::Settings;
 
+/// No unit has more rows; in H.265 far fewer ([`h265::MAX_ROWS`]).
+pub const MAX_ROWS: usize = 1_024;
+
 /// No unit has more flags: in H.266, 110 with CTU side 32, 446 with 64 and 1,786 with 128
-/// ([`Settings::max_flags`]).
+/// ([`Settings::max_flags`]), in H.265 far fewer ([`h265::MAX_FLAGS`]).
 pub const MAX_FLAGS: usize = 1_786;
 
 /// No unit with so many rows has more flags: 4 for each row, less 2; 0 for no rows, which no unit
@@ -105,8 +108,8 @@ pub fn read_unit(
 
 /// Writes the flags that give exactly these rows and answers how many.
 ///
-/// Bytes of `flags` past the answer stay as they were. A buffer of [`max_flags_of_rows`] or
-/// [`MAX_FLAGS`] bytes is never too short, for H.266 one of [`Settings::max_flags`] neither.
+/// Bytes of `flags` past the answer stay as they were. A buffer of [`max_flags_of_rows`],
+/// [`MAX_FLAGS`] or [`Settings::max_flags`] ([`h265::Settings::max_flags`]) bytes is never too short.
 ///
 /// ```
 /// use colwythar::{write_flags, Settings};

@@ -1,12 +1,12 @@
 //! The page of a unit: its rows as lines of text.
 
-use crate::{raw, Refusal, Settings};
+use crate::{raw, Refusal, Settings, MAX_ROWS};
 
 /// The bytes of a line, its line feed among them.
 pub const LINE_BYTES: usize = 33;
 
-/// No unit has a longer page: 1,024 rows.
-pub const MAX_PAGE_BYTES: usize = 1_024 * LINE_BYTES;
+/// No unit has a longer page.
+pub const MAX_PAGE_BYTES: usize = MAX_ROWS * LINE_BYTES;
 
 /// Prints the rows of a unit, a line for each, and answers how many bytes that are. Only rows that
 /// some flags give are printed.

@@ -119,8 +119,10 @@ pub(crate) fn assert_in_order<S: Coding>(settings: &S, table: &[u8]) {
     assert_eq!(met, Ok(()), "{settings:?}, {:?}", rows(table).collect::<Vec<_>>());
 }
 
-/// So many rows have no more flags than is planned for them, and than their CTU side has.
+/// A unit has no more rows than its settings have, and no more flags than is planned for them, and
+/// than its settings have.
 fn assert_planned<S: Coding>(settings: &S, rows: usize, flags: usize) {
+    assert!(rows <= settings.max_rows(), "{rows} rows: {settings:?}");
     assert!(flags + 4 <= 6 * rows, "{flags} flags of {rows} rows: {settings:?}");
     assert!(flags <= max_flags_of_rows(rows), "{flags} flags of {rows} rows: {settings:?}");
     assert!(flags <= settings.max_flags(), "{flags} flags: {settings:?}");

@@ -1,6 +1,6 @@
 //! Pictures in H.265, through the wrapper.
 
-use colwythar::h265::{read_unit, write_flags, Session, Settings};
+use colwythar::h265::{read_unit, write_flags, Session, Settings, MAX_FLAGS, MAX_ROWS};
 use colwythar::{max_flags_of_rows, raw, Refusal};
 
 use crate::paper::{table, Fields, P2};
@@ -42,6 +42,30 @@ fn units_inside_and_at_the_edge() {
     check(&edge, 1, &[0, 0, 0, 1], &[&column[..], &pair(48), &pair(56)].concat());
     // 16 by 8: two smallest blocks, without a flag.
     check(&edge, 3, &[], &pair(64));
+}
+
+/// Units of blocks of the smallest side fill the buffers that are planned for them.
+#[test]
+fn units_with_the_most_rows_and_flags() {
+    for (ctu, min_cb, most_rows, most_flags) in [
+        (16, 8, 4, 1),
+        (16, 16, 1, 0),
+        (32, 8, 16, 5),
+        (32, 16, 4, 1),
+        (64, 8, MAX_ROWS, MAX_FLAGS),
+        (64, 16, 16, 5),
+        (64, 64, 1, 0),
+    ] {
+        let settings = Settings { ctu, min_cb, width: ctu, height: ctu };
+        assert_eq!((settings.max_rows(), settings.max_flags()), (most_rows, most_flags));
+        let mut rows = vec![0; 8 * most_rows];
+        let flags = vec![1; most_flags];
+        assert_eq!(read_unit(&settings, 0, &flags, &mut rows), Ok(most_rows));
+        let mut again = vec![0; most_flags];
+        assert_eq!(write_flags(&settings, 0, &rows, &mut again), Ok(most_flags));
+        assert_eq!(again, flags);
+    }
+    assert_eq!(Settings { min_cb: 0, ..ONE }.max_flags(), 0);
 }
 
 /// The last of 1,048,576 units.

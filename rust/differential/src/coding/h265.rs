@@ -54,8 +54,12 @@ impl Coding for h265::Settings {
         side
     }
 
+    fn max_rows(&self) -> usize {
+        colwythar::h265::Settings::from(*self).max_rows()
+    }
+
     fn max_flags(&self) -> usize {
-        colwythar::MAX_FLAGS
+        colwythar::h265::Settings::from(*self).max_flags()
     }
 
     fn flags(&self, address: u64, rng: &mut Rng, ones: usize) -> Vec<u8> {

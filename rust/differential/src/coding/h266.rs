@@ -53,6 +53,10 @@ impl Coding for h266::Settings {
         side
     }
 
+    fn max_rows(&self) -> usize {
+        colwythar::MAX_ROWS
+    }
+
     fn max_flags(&self) -> usize {
         colwythar::Settings::from(*self).max_flags()
     }

@@ -56,6 +56,8 @@ pub trait Coding: Copy + Debug + Sized + 'static {
     fn picture(&self) -> (u32, u32);
     /// The side of the pipeline units, which is the wrapper's too.
     fn pipeline_side(&self) -> u32;
+    /// The most rows that a unit has, by the wrapper.
+    fn max_rows(&self) -> usize;
     /// The most flags that a unit has, by the wrapper.
     fn max_flags(&self) -> usize;
     /// The flags of a random tree of this kind.
