@@ -30,6 +30,10 @@ fn lines_that_are_taken() {
     }
 }
 
+fn assert_wrong(text: &str, reason: Reason) {
+    assert_eq!(scanned(text), Err(Malformed { reason, row_of: None }), "{text}");
+}
+
 #[test]
 fn the_first_thing_that_is_wrong() {
     let lines = [
@@ -43,14 +47,6 @@ fn the_first_thing_that_is_wrong() {
         ("picture 1 2 3 4 5 6 7 8 9 #", Reason::PictureMany),
         ("picture", Reason::PictureFew),
         ("picture 1#", Reason::Comment),
-        ("H265 64 8 64 64", Reason::Word),
-        ("h265: 64 8 64 64", Reason::Colon),
-        ("h265 64 x :", Reason::H265Word),
-        ("h265 4294967296 x", Reason::PictureLarge),
-        ("h265 64 8 64 64 1 #", Reason::H265Many),
-        ("h265 64 8 64", Reason::H265Few),
-        ("h265", Reason::H265Few),
-        ("h265 64#", Reason::Comment),
         ("unit", Reason::Address),
         ("unit :", Reason::Address),
         ("unit x", Reason::Address),
@@ -68,9 +64,22 @@ fn the_first_thing_that_is_wrong() {
         ("\u{0}", Reason::Byte),
         ("4294967296 x", Reason::AddressLarge),
     ];
-    for (text, reason) in lines {
-        assert_eq!(scanned(text), Err(Malformed { reason, row_of: None }), "{text}");
-    }
+    lines.into_iter().for_each(|(text, reason)| assert_wrong(text, reason));
+}
+
+#[test]
+fn the_first_thing_that_is_wrong_in_h265() {
+    let lines = [
+        ("H265 64 8 64 64", Reason::Word),
+        ("h265: 64 8 64 64", Reason::Colon),
+        ("h265 64 x :", Reason::H265Word),
+        ("h265 4294967296 x", Reason::PictureLarge),
+        ("h265 64 8 64 64 1 #", Reason::H265Many),
+        ("h265 64 8 64", Reason::H265Few),
+        ("h265", Reason::H265Few),
+        ("h265 64#", Reason::Comment),
+    ];
+    lines.into_iter().for_each(|(text, reason)| assert_wrong(text, reason));
 }
 
 #[test]

@@ -52,8 +52,10 @@ fn units_with_the_most_rows_and_flags() {
         (16, 16, 1, 0),
         (32, 8, 16, 5),
         (32, 16, 4, 1),
+        (32, 32, 1, 0),
         (64, 8, MAX_ROWS, MAX_FLAGS),
         (64, 16, 16, 5),
+        (64, 32, 4, 1),
         (64, 64, 1, 0),
     ] {
         let settings = Settings { ctu, min_cb, width: ctu, height: ctu };

@@ -54,7 +54,8 @@ fn edges() {
     }
 }
 
-/// Every tree of every unit of a picture that has one, 83,522 of them inside the picture.
+/// Every tree of every picture of one unit. How many there are follows from R-10's words: a node has one
+/// more than the product of its parts' where it has a flag, and just as many where it is out.
 #[test]
 fn all_units_in_full() {
     let (mut engine, mut rng) = (H265::default(), Rng::new(203));
@@ -62,14 +63,13 @@ fn all_units_in_full() {
     for [ctu, smallest] in [16, 32, 64].into_iter().flat_map(each_smallest) {
         for (width, height) in pictures(0, ctu, smallest) {
             let settings = [ctu, smallest, width, height];
-            let limit = if width == height { 100_000 } else { 300 };
-            let found = small::unit(&mut engine, &mut rng, &settings, 0, limit);
-            units += usize::from(found.is_some());
-            trees += found.unwrap_or(0);
+            let found = small::unit(&mut engine, &mut rng, &settings, 0, 100_000);
+            units += 1;
+            trees += found.expect("few trees");
         }
     }
     println!("{units} units, {trees} trees\n{}", engine.tally);
-    assert!(units >= 100 && trees >= 86_000, "{units} units, {trees} trees");
+    assert_eq!((units, trees), (111, 106_259));
 }
 
 /// Whole pictures, refused calls in between, calls after the end, forged sessions.

@@ -1,5 +1,7 @@
 //! Where tables stop being trees: the scan beside plain comparison with every table of a unit.
 
+use std::iter;
+
 use h265::{write_flags, Settings};
 use samples::brute::tables;
 use samples::near::Near;
@@ -50,28 +52,31 @@ fn every_table_near_the_trees_of_a_unit() {
     assert!([0, 16, 27, 28].iter().all(|&number| answers[number] >= 10_000), "{answers:?}");
 }
 
-/// Any short list of rows that look like rows of this unit: one or two blocks, of any size, at any
-/// smallest block, with any depth.
+/// Any short list of rows that look like rows of this unit.
 #[test]
 fn all_short_tables_of_a_small_unit() {
     let mut answers = [0; 29];
     for settings in [[16, 8, 16, 16], [16, 8, 8, 16], [32, 16, 32, 32], [32, 16, 32, 16]] {
         let trees = &listing::of_unit(&settings, (0, 0));
         let mut near = Near::new(trees, |rows| write_flags(&settings, 0, rows, &mut [0; 64]));
-        let rows = plausible(settings[1] as u8);
-        near.check(&[]);
-        for first in &rows {
-            near.check(first);
-            for second in &rows {
-                near.check(&[&first[..], second].concat());
-                for third in rows.iter().step_by(5) {
-                    near.check(&[&first[..], second, third].concat());
-                }
-            }
+        for table in short_tables(&plausible(settings[1] as u8)) {
+            near.check(&table);
         }
         near.add_to(&mut answers);
     }
     assert!([0, 16, 27, 28].iter().all(|&number| answers[number] > 0), "{answers:?}");
+}
+
+/// All tables of at most two of these rows, and those of three whose third is every fifth of them.
+fn short_tables(rows: &[[u8; 8]]) -> impl Iterator<Item = Vec<u8>> + '_ {
+    let pairs = move || {
+        let seconds = move |first| rows.iter().map(move |second| [first, *second].concat());
+        rows.iter().copied().flat_map(seconds)
+    };
+    let thirds =
+        move |pair: Vec<u8>| rows.iter().step_by(5).map(move |third| [&pair[..], third].concat());
+    let ones = rows.iter().map(|row| row.to_vec());
+    iter::once(vec![]).chain(ones).chain(pairs()).chain(pairs().flat_map(thirds))
 }
 
 /// Rows at the first three corners of smallest blocks each way, with sides and depths around theirs.
