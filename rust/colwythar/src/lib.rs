@@ -59,7 +59,7 @@ pub const MAX_FLAGS: usize = 1_786;
 /// has.
 ///
 /// A flag buffer of this length is never too short for [`write_flags`]. For 1 to 64 rows some unit
-/// fills it. Where [`Settings::max_flags`] is smaller, that is enough.
+/// of H.266 fills it. Where [`Settings::max_flags`] is smaller, that is enough.
 ///
 /// ```
 /// use colwythar::{max_flags_of_rows, write_flags, Settings};
@@ -103,7 +103,7 @@ pub fn read_unit(
     flags: &[u8],
     rows: &mut [u8],
 ) -> Result<usize, Refusal> {
-    Refusal::check(settings.read_unit(address, flags, rows))
+    Refusal::check(settings.raw_read_unit(address, flags, rows))
 }
 
 /// Writes the flags that give exactly these rows and answers how many.
@@ -132,5 +132,5 @@ pub fn write_flags(
     rows: &[u8],
     flags: &mut [u8],
 ) -> Result<usize, Refusal> {
-    Refusal::check(settings.write_flags(address, rows, flags))
+    Refusal::check(settings.raw_write_flags(address, rows, flags))
 }

@@ -36,7 +36,7 @@ impl<S: Coding> Session<S> {
     pub fn open(settings: S) -> Result<Self, Refusal> {
         let count = coding::unit_count(&settings)?;
         let mut due = 0;
-        Refusal::check(settings.open(&mut due))?;
+        Refusal::check(settings.raw_open(&mut due))?;
         Ok(Self { settings, due, count })
     }
 
@@ -48,7 +48,7 @@ impl<S: Coding> Session<S> {
     /// Numbers 20 and 21, and 11 to 14.
     #[inline]
     pub fn unit(&mut self, address: u64, flags: &[u8], rows: &mut [u8]) -> Result<usize, Refusal> {
-        Refusal::check(self.settings.unit(&mut self.due, address, flags, rows))
+        Refusal::check(self.settings.raw_unit(&mut self.due, address, flags, rows))
     }
 
     /// The address that is due; the unit count once the picture is complete.

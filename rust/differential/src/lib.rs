@@ -12,9 +12,9 @@
 //! exchanged, left out and doubled. All tables of H.266 are also printed as pages, which `tuned` does
 //! not have.
 //!
-//! `h266` and `h265` share nothing with the engine, nor with each other. `tuned` takes from `h266` the check of the settings, the
-//! rules of open splits and where a refused table stops being a tree, and so does the generator of
-//! trees the rules; trees are also drawn from random flags, which know no rules.
+//! `h266` and `h265` share nothing with the engine, nor with each other. `tuned` takes from `h266` the
+//! check of the settings, the rules of open splits and where a refused table stops being a tree, and so
+//! does the generator of trees the rules; trees are also drawn from random flags, which know no rules.
 //!
 //! ```
 //! use differential::{calls, Engine};
