@@ -56,7 +56,8 @@ pub extern "C" fn colwythar_write_flags(
     put_answer(a, answer);
 }
 
-// Prints the rows of a unit on the lent page, one row a line: refusals 1 to 10, 15, 16 and 23, or the number of bytes.
+// Prints the rows of a unit on the lent page, one row a line: refusals 1 to 10, 15, 27, 28, 16
+// and 23, or the number of bytes.
 #[no_mangle]
 pub extern "C" fn colwythar_page(
     settings: &[u32; 8],

@@ -1,5 +1,5 @@
--- R-10, "Older streams in H.265", one claim: "Rows, both directions and covering are as for H.266". For H.265's settings it has demands 1, 2 and 3, and what R-4, R-5, R-7 and R-14
--- say; the statements are those of all units and sessions, at the units of H.265 (`unitsOf`, h265settings/specs/Units.antt).
+-- R-10, "Older streams in H.265", one claim: "Rows, both directions and covering are as for H.266". For H.265's settings it has demands 1, 2 and 3, and what R-4,
+-- R-5, R-7 and R-14 say; the statements are those of all units and sessions, at the units of H.265 (`unitsOf`, h265settings/specs/Units.antt).
 use Prim.Native.Nat.{ℕ, _+_, _<_}
 use mathlib.Core.Path.{_≡_}
 use mathlib.Core.List.{List}

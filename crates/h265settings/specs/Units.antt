@@ -1,5 +1,5 @@
--- The units of an H.265 picture. H.265's tree is H.266's luma tree without cuts: M = 0, and MinQt = MinCb = the smallest side. So "a node is split without a flag
--- when it is out of the picture and larger than the smallest side, and has a flag when inside and larger. Otherwise it is a leaf. MTT depth is 0".
+-- The units of an H.265 picture. H.265's tree is H.266's luma tree without cuts: M = 0, and MinQt = MinCb = the smallest side. That this is R-10's tree, node by
+-- node, is `QuadNodes` (h265/specs/QuadNodes.antt).
 use Rattle.settings.specs.declared.Count.{Count}
 use Rattle.settings.specs.declared.Settings as h266
 use Rattle.settings.specs.Units.{countedBy}

@@ -30,13 +30,13 @@ pub struct Square {
     pub side: u32,
 }
 
-// The number of units of a picture, or the refusal of its settings, 1 to 9.
+// The number of units of a picture, or the refusal of its settings: in H.266 1 to 9.
 pub enum Count {
     Units(usize),
     Refused(u32),
 }
 
-// A unit's square, or the refusal of its settings and address, 1 to 10.
+// A unit's square, or the refusal of its settings, or 10, that of its address.
 pub enum Located {
     At(Square),
     Refused(u32),

@@ -1,4 +1,4 @@
--- What the header and docs/REFUSALS.md promise of every unit: at most 1,024 rows and at most `mostFlags` flags, and buffers
+-- What the header and docs/REFUSALS.md promise of every unit of H.266: at most 1,024 rows and at most `mostFlags` flags, and buffers
 -- for so many are never too short. The unit call on the due unit is this reading (`Demand1 .due-unit`, picture/specs/Demand1.antt).
 use Prim.Native.Nat.{ℕ, _*_, _≤_}
 use mathlib.Core.Path.{_≡_}

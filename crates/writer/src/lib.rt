@@ -71,7 +71,7 @@ pub fn write_flags(s: Settings, address: usize, rows: &[u8], flags: &mut [u8]) -
 
 // The way back of the unit at an address, by settings and the refusal of their check: H.265's. It shares the walk with
 // `write_flags` and not the way to it, for else the compiler would take both out of the entries, and H.266's one row would
-// take a sixth more time.
+// take more time (docs/DECISIONS.md).
 pub fn write_checked(
     refusal: u32,
     s: Settings,
