@@ -64,9 +64,9 @@ module _ (s : Settings) (a : ℕ) (h : refusalIn (unitsOf s) a ≡ 0) (t : UnitT
   fold = root .good .top refl .side Vertical
 
   rows-most : length (rowsOf t) ≤ mostRows s
-  unfolding areasOf squareIn
+  unfolding squareIn
   rows-most =
-      let r = tree-rows (limitsOf (asLuma s)) refl (root .valid) t (every-more whole every-none) in
+      let r = tree-rows (limitsOf (asLuma s)) refl (root .valid) whole t in
       blocks-most (s .ctu) (s .smallest) (length (rowsOf t)) least fold (omega arith)
 
   flags-most : length (flagsOf t) ≤ mostFlags s

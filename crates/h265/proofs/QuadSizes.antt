@@ -3,11 +3,11 @@
 use Prim.Native.Nat.{ℕ, _+_, _*_, _≤_, _<_}
 use mathlib.Core.Path.{_≡_, refl, ap}
 use mathlib.Core.Bool.{Bool, true, false}
-use mathlib.Core.List.{List, _++_}
+use mathlib.Core.List.{List}
 use native.Mathlib.Omega.{arith}
 use native.Mathlib.Nat.{mul-le-mul, mul-le-mul-left}
 use borrow.Author.Tests.{ltb-true}
-use lib.ListN.{length, length-append}
+use lib.ListN.{length}
 use lib.Dec.{ltb}
 use Rattle.sides.proofs.Bools.{clash}
 use Rattle.tree.specs.declared.Limits.{Limits}
@@ -18,8 +18,7 @@ use Rattle.tree.specs.declared.Decision.the-variants.{Leaf, Quad, Binary, Terna
 use Rattle.tree.specs.Kind.{luma}
 use Rattle.tree.specs.Splits.{inside, Rights, rightsOf, allows}
 use Rattle.tree.specs.Children.{children, childrenFrom, shares}
-use Rattle.tree.specs.Rows.{ownRows}
-use Rattle.tree.specs.Tree.{Trees, none, skip, node, flagsOf, rowsOf}
+use Rattle.tree.specs.Tree.{Tree, Trees, none, skip, node, rowsOf}
 use Rattle.laws.specs.Areas.{areasOf}
 use Rattle.laws.specs.Counts.{flagsAt, flagCount}
 use Rattle.laws.specs.Every.{Every, every-none, every-more}
@@ -28,7 +27,10 @@ use Rattle.laws.specs.Proper.{Proper}
 use Rattle.laws.proofs.Areas.{kids-areas}
 use Rattle.laws.proofs.Every.{every-both}
 use Rattle.laws.proofs.Edge.{good-kids}
+use Rattle.laws.proofs.EveryRow.{every-row}
+use Rattle.laws.proofs.Leaves.{leaf-side}
 use Rattle.laws.proofs.Multiples.{fold-least, fold-multiple, same-multiple, apart}
+use Rattle.laws.proofs.Sizes.{rows-of-sides}
 use Rattle.h265.proofs.QuadNodes.{quadRights, quad-rights, Flat, flat-kids}
 
 -- a node that a walk reaches, above all cuts
@@ -72,14 +74,7 @@ module _ (l : Limits) (flat : l .maxmtt ≡ 0) (v : Proper (luma l)) where
     quad-flags false true = omega arith
     quad-flags false false = omega arith
 
-    -- the rows of a decision, and three blocks for each flag and one for the node, have room beside the children
-    decision-rows : (d : Decision) → allows (rightsOf (luma l) n) d ≡ true → block * length (ownRows n d) + areasOf (children l n d) ≤ n .w * n .h
-    unfolding ownRows children childrenFrom shares areasOf
-    decision-rows Leaf ok = let o = one-block in omega arith
-    decision-rows Quad ok = let a = kids-areas l (g .0 .shape) Quad refl in omega arith
-    decision-rows (Binary d) ok = clash ok (ap (λ (r : Rights). r .binary d) rights)
-    decision-rows (Ternary d) ok = clash ok (ap (λ (r : Rights). r .ternary d) rights)
-
+    -- three blocks for each flag of a decision, and one for the node, have room beside the children
     decision-flags : (d : Decision) → allows (rightsOf (luma l) n) d ≡ true
         → block * (3 * flagsAt (rightsOf (luma l) n) d + 1) + areasOf (children l n d) ≤ n .w * n .h + block * length (children l n d)
     unfolding children childrenFrom shares areasOf
@@ -94,15 +89,11 @@ module _ (l : Limits) (flat : l .maxmtt ≡ 0) (v : Proper (luma l)) where
     whole-kids : (d : Decision) → allows (rightsOf (luma l) n) d ≡ true → Every (Whole l) (children l n d)
     whole-kids d ok = every-both (good-kids v (g .0) d ok) (flat-kids l flat n (g .1) d ok)
 
-  pub tree-rows : {ns : List Node} (t : Trees (luma l) ns) → Every (Whole l) ns → block * length (rowsOf t) ≤ areasOf ns
-  unfolding rowsOf areasOf
-  tree-rows none gs = omega arith
-  tree-rows (skip out rest) (every-more g gs) = let r = tree-rows rest gs in omega arith
-  tree-rows (node {n = n} d here ok kids rest) (every-more g gs) =
-      let a = tree-rows kids (whole-kids g d ok) in
-      let b = tree-rows rest gs in
-      let c = decision-rows g d ok in
-      rw (length-append (ownRows n d ++ rowsOf kids) (rowsOf rest), length-append (ownRows n d) (rowsOf kids)) (omega arith)
+  -- no row is smaller than a block of the smallest side
+  pub tree-rows : {n : Node} → Whole l n → (t : Tree (luma l) n) → block * length (rowsOf t) ≤ n .w * n .h
+  tree-rows g t =
+      rows-of-sides v (g .0 .shape) t (l .minqt)
+      (every-row (luma l) (λ n w d ok. whole-kids w d ok) (λ n w i e. rw (leaf-side (w .0 .shape) e) (fold-least (w .0 .top (w .1 .0) .side e))) t (every-more g every-none))
 
   pub tree-flags : {ns : List Node} (t : Trees (luma l) ns) → Every (Whole l) ns → block * (3 * flagCount t + length ns) ≤ areasOf ns
   unfolding flagCount areasOf

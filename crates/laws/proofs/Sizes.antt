@@ -49,11 +49,11 @@ unfolding areaOf
 area-rows [] = refl
 area-rows (r ∷ rows) = rw (area-rows rows)
 
--- rows of sides from 4 on
-area-least : {rows : List Row} → Every (λ r. (e : Direction) → 4 ≤ rowSide e r) rows → 16 * length rows ≤ areaOf rows
+-- rows of sides from m on
+area-least : (m : ℕ) {rows : List Row} → Every (λ r. (e : Direction) → m ≤ rowSide e r) rows → m * m * length rows ≤ areaOf rows
 unfolding areaOf
-area-least every-none = omega arith
-area-least (every-more {a = r} h hs) = let a = mul-le-mul (h Vertical) (h Horizontal) in let b = area-least hs in omega arith
+area-least m every-none = omega arith
+area-least m (every-more {a = r} h hs) = let a = mul-le-mul (h Vertical) (h Horizontal) in let b = area-least m hs in omega arith
 
 module _ {k : Kind} (v : Proper k) {n : Node} (sh : Shape n) (t : Tree k n) where
   -- the samples of the rows are those of the node in the picture
@@ -69,12 +69,16 @@ module _ {k : Kind} (v : Proper k) {n : Node} (sh : Shape n) (t : Tree k n) wher
   sides-least : Every (λ r. (e : Direction) → 4 ≤ rowSide e r) (rowsOf t)
   sides-least = every-row k (λ n sh d ok. shape-kids v sh d ok) (λ n sh h e. rw (leaf-side sh e) (fold-least (sh .side e .fold))) t (every-more sh every-none)
 
-  -- a row has 16 samples at least: a unit has 1,024 rows at most
-  pub rows-fit : 16 * length (rowsOf t) ≤ n .w * n .h
-  rows-fit =
-      let a = area-least sides-least in
+  -- rows of sides from m on have m * m samples each
+  pub rows-of-sides : (m : ℕ) → Every (λ r. (e : Direction) → m ≤ rowSide e r) (rowsOf t) → m * m * length (rowsOf t) ≤ n .w * n .h
+  rows-of-sides m h =
+      let a = area-least m h in
       let b = areas-in-picture in
       let w : clip (k .limits .width) (n .x) (n .w) ≤ n .w = omega arith in
       let v : clip (k .limits .height) (n .y) (n .h) ≤ n .h = omega arith in
       let c = mul-le-mul w v in
       omega arith
+
+  -- a row has 16 samples at least: a unit has 1,024 rows at most
+  pub rows-fit : 16 * length (rowsOf t) ≤ n .w * n .h
+  rows-fit = rows-of-sides 4 sides-least
