@@ -6,11 +6,11 @@ use lib.ListN.{length, take, drop}
 use native.Mathlib.Omega.{arith}
 use native.Mathlib.Decide.{decLt, ℕ-discrete}
 use Rattle.tree.specs.Rows.{Row}
-use Rattle.laws.specs.Geometry.{copies}
+use Rattle.laws.specs.Geometry.{inRow, copies}
 use Rattle.laws.specs.CellOrder.{RowIn, Begun, Full, RowAt, CellByCell}
 use Rattle.laws.proofs.Joins.{Joins}
 use Rattle.laws.proofs.Numbered.{at-front, at-past, at-known}
-use Rattle.laws.proofs.Copies.{inRow, own-corner, copies-append, copies-take, copies-zero, copies-none, copies-parts, row-taken, row-dropped, Once, once-first, once-rest}
+use Rattle.laws.proofs.Copies.{own-corner, copies-append, copies-take, copies-zero, copies-none, copies-parts, row-taken, row-dropped, Once, once-first, once-rest}
 
 -- what is two things is known where both are
 both-known : {A B R : Type 0} → (A → B → R) → (R → A) → (R → B) → Dec A → Dec B → Dec R

@@ -8,15 +8,11 @@ use lib.Pow.{pow-pos}
 use native.Mathlib.Nat.{zero-add}
 use native.Mathlib.Omega.{arith}
 use Rattle.tree.specs.Rows.{Row}
-use Rattle.laws.specs.Geometry.{rectangle, copies}
+use Rattle.laws.specs.Geometry.{inRow, copies}
 use Rattle.laws.proofs.Tests.{never}
 use Rattle.laws.proofs.Cover.{span-in}
 
 -- ---- one row
-
--- 1 where the row has the sample (px, py), else 0
-abbrev pub inRow : Row → ℕ → ℕ → ℕ
-inRow r px py = rectangle (r .x) (r .y) (2 ^ r .ew) (2 ^ r .eh) px py
 
 pub own-corner : (r : Row) → inRow r (r .x) (r .y) ≡ 1
 own-corner r =

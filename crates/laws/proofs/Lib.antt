@@ -69,3 +69,4 @@ pub mod Tries
 pub mod Turning
 pub mod Unique
 pub mod Walks
+pub mod WholeCells

@@ -23,7 +23,6 @@ use Rattle.laws.specs.Directions.{corner}
 use Rattle.laws.specs.Good.{Grid}
 use Rattle.laws.specs.Multiples.{Multiple, Fold}
 use Rattle.laws.specs.Shape.{Shape}
-use Rattle.laws.proofs.Leaves.{leaf-start, leaf-side}
 use Rattle.laws.proofs.EveryRow.{every-row}
 use Rattle.laws.proofs.Every.{every-map}
 use Rattle.laws.proofs.Directions.{both-sides}
@@ -32,6 +31,7 @@ use Rattle.laws.proofs.Opens.{quad-open, binary-open, ternary-open}
 use Rattle.laws.proofs.Parts.{least, every-child}
 use Rattle.laws.proofs.Shape.{square-room, cut-room, shape-child}
 use Rattle.laws.proofs.Grids.{grid-child}
+use Rattle.laws.proofs.WholeCells.{grid-leaf}
 use Rattle.laws.proofs.Cells.{InOne, larger-fold, small-in-one, one-kids, one-leaf, in-one-cell}
 
 fold-64 : Fold 4 64
@@ -82,18 +82,7 @@ module _ (n : Node) (w : Whole n) where
     whole-room k (Ternary d) ok e = let a = ternary-open k n d ok .tt in let b = a Vertical in let c = a Horizontal in absurd (omega arith)
 
   pub whole-leaf : OfWholeCells 64 (rowOf n)
-  whole-leaf = record {
-    left = rw (leaf-start n Vertical) (at Vertical);
-    top = rw (leaf-start n Horizontal) (at Horizontal);
-    wide = rw (leaf-side (w .shape) Vertical) (side Vertical);
-    high = rw (leaf-side (w .shape) Horizontal) (side Horizontal);
-  }
-    where
-      at : (e : Direction) → corner e n % 64 ≡ 0
-      at e = let m = w .grid .at e .is in omega arith
-
-      side : (e : Direction) → along e n % 64 ≡ 0
-      side e = let m = w .grid .side e .is in omega arith
+  whole-leaf = grid-leaf 64 (w .shape) (w .grid)
 
 -- a square above one cell, at a multiple of its side
 pub square-whole : {n : Node} → Shape n → n .w ≡ n .h → ((e : Direction) → Multiple (along e n) (corner e n)) → 64 < n .w → Whole n

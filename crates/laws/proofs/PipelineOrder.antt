@@ -15,7 +15,7 @@ use Rattle.tree.specs.Splits.{along, rightsOf, allows}
 use Rattle.tree.specs.Children.{children, cornerInside}
 use Rattle.tree.specs.Rows.{Row, ownRows}
 use Rattle.tree.specs.Tree.{Trees, Tree, none, node, rowsOf}
-use Rattle.laws.specs.Geometry.{copies, OfWholeCells, pipelineSide}
+use Rattle.laws.specs.Geometry.{inRow, copies, OfWholeCells, pipelineSide}
 use Rattle.laws.specs.Every.{Every, every-none, every-more}
 use Rattle.laws.specs.CellOrder.{CellByCell}
 use Rattle.laws.specs.Proper.{Proper}
@@ -25,7 +25,7 @@ use Rattle.laws.specs.Shape.{Shape}
 use Rattle.laws.proofs.Multiples.{fold-least}
 use Rattle.laws.proofs.Joins.{Joins, own-joined, tree-joined}
 use Rattle.laws.proofs.Rectangles.{rectangle-in, in-rectangle}
-use Rattle.laws.proofs.Copies.{inRow, copies-none}
+use Rattle.laws.proofs.Copies.{copies-none}
 use Rattle.laws.proofs.CellOrder.{FilledIfOnce, filled-joins, cell-by-cell}
 use Rattle.laws.proofs.TreeSamples.{tree-once}
 use Rattle.laws.proofs.OwnCell.{own-filled}

@@ -67,7 +67,8 @@ module _ {k : Kind} (v : Proper k) {n : Node} (sh : Shape n) where
   large : (e : Direction) → 4 ≤ along e n
   large e = fold-least (sh .side e .fold)
 
-  room : (d : Decision) → allows (rightsOf k n) d ≡ true → (e : Direction) → 4 * 2 < along e n * least d e
+  -- the parts of an open split are longer than 2 samples, so 4 at least
+  pub room : (d : Decision) → allows (rightsOf k n) d ≡ true → (e : Direction) → 4 * 2 < along e n * least d e
   room Leaf ok e = let a = large e in omega arith
   room Quad ok e = let o = quad-open k n ok in square-room 4 n (sh .square (o .top)) (omega arith) e
   room (Binary d) ok e = let o = binary-open k n d ok .cut in cut-room 4 n (omega arith) large 2 d (omega arith) e

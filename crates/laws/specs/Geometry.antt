@@ -16,10 +16,14 @@ span a l p = bit (leb a p && ltb p (a + l)) 1
 abbrev pub rectangle : ℕ → ℕ → ℕ → ℕ → ℕ → ℕ → ℕ
 rectangle x y w h px py = span x w px * span y h py
 
--- how many rows contain the sample (px, py); a row's sides are 2 to its exponents
+-- 1 where a row has the sample (px, py), else 0; a row's sides are 2 to its exponents
+abbrev pub inRow : Row → ℕ → ℕ → ℕ
+inRow r px py = rectangle (r .x) (r .y) (2 ^ r .ew) (2 ^ r .eh) px py
+
+-- how many rows contain the sample (px, py)
 unfoldable pub copies : ℕ → ℕ → List Row → ℕ
 copies px py [] = 0
-copies px py (r ∷ rs) = rectangle (r .x) (r .y) (2 ^ r .ew) (2 ^ r .eh) px py + copies px py rs
+copies px py (r ∷ rs) = inRow r px py + copies px py rs
 
 -- how many samples the rows have, each row for itself
 unfoldable pub areaOf : List Row → ℕ

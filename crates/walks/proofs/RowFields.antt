@@ -32,7 +32,7 @@ pub record Six (row x y a b q m : ℕ) : Type 0 where
   pub at-qt : row / 281474976710656 % 256 ≡ q
   pub at-mtt : row / 72057594037927936 % 256 ≡ m
 
-unpacked : {x y a b q m : ℕ} → x < 65536 → y < 65536 → a < 8 → b < 8 → q < 256 → m < 256 → (row : ℕ) → row ≡ packed x y a b q m → Six row x y a b q m
+pub unpacked : {x y a b q m : ℕ} → x < 65536 → y < 65536 → a < 8 → b < 8 → q < 256 → m < 256 → (row : ℕ) → row ≡ packed x y a b q m → Six row x y a b q m
 unpacked hx hy ha hb hq hm row e = record {
   at-x = omega arith;
   at-y = omega arith;

@@ -1,0 +1,2 @@
+pub mod Map
+pub mod Held
