@@ -13,6 +13,7 @@ ghost use Rattle.unit.specs.Luma.{unitsOf};
 ghost use Rattle.unit.specs.Reader.{readUnit};
 ghost use Rattle.unit.specs.Writer.{writeFlags};
 ghost use Rattle.page.specs.Page.{writePage};
+ghost use Rattle.compare.specs.Compare.{compareUnit};
 ghost use Rattle.picture.specs.State.{call};
 ghost use Rattle.picture.specs.Session.{opening, openedNumber};
 ghost use Rattle.colwythar.specs.Words.{answerWords, dueAfter, unitsIn, countWords, Leaves, OpensTo, Moves};
@@ -70,6 +71,23 @@ pub extern "C" fn colwythar_page(
 {
     let s = settings::from_words(settings);
     let a = page::write_page(s, address as usize, rows, page);
+    put_answer(a, answer);
+}
+
+// Compares two tables of a unit: refusals 1 to 10, then 15, 27, 28 and 16 of the first, then of the second, or 0 to 3: equal
+// blocks, the first finer, the second finer, neither.
+#[no_mangle]
+pub extern "C" fn colwythar_compare(
+    settings: &[u32; 8],
+    address: u64,
+    first: &[u8],
+    second: &[u8],
+    answer: &mut [u64; 2],
+)
+    ensures { λ _. ⌜ now (answer .exit) ≡ answerWords (compareUnit (settingsIn (now (settings .entry))) address (now (first .entry)) (now (second .entry))) ⌝ }
+{
+    let s = settings::from_words(settings);
+    let a = compare::compare_unit(s, address as usize, first, second);
     put_answer(a, answer);
 }
 

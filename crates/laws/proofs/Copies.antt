@@ -7,8 +7,10 @@ use lib.ListN.{length, getElem?, take, drop, take-append-drop}
 use lib.Pow.{pow-pos}
 use native.Mathlib.Nat.{zero-add}
 use native.Mathlib.Omega.{arith}
+use native.Mathlib.Decide.{decLt}
 use Rattle.tree.specs.Rows.{Row}
 use Rattle.laws.specs.Geometry.{inRow, copies}
+use Rattle.laws.specs.CellOrder.{RowAt}
 use Rattle.laws.proofs.Tests.{never}
 use Rattle.laws.proofs.Cover.{span-in}
 
@@ -65,6 +67,37 @@ module _ (px py : ℕ) where
   row-dropped (s ∷ rows) (suc i) zero e h = let k = row-dropped rows i 0 e (omega arith) in omega arith
   row-dropped (s ∷ rows) zero (suc n) e h = absurd (omega arith)
   row-dropped (s ∷ rows) (suc i) (suc n) e h = row-dropped rows i n e (omega arith)
+
+  -- ---- the row that has the sample
+
+  pub some-row : (rows : List Row) → 0 < copies px py rows → (i : ℕ) × RowAt (λ r. 0 < inRow r px py) rows i
+  unfolding copies
+  some-row [] h = absurd (omega arith)
+  some-row (r ∷ rows) h = go (decLt 0 (inRow r px py)) (λ none. some-row rows (omega arith))
+    where
+      go : Dec (0 < inRow r px py) → (¬ (0 < inRow r px py) → (i : ℕ) × RowAt (λ r. 0 < inRow r px py) rows i) → (i : ℕ) × RowAt (λ r. 0 < inRow r px py) (r ∷ rows) i
+      go (yes here) rest = (0, record { row = r; is = refl; has = here })
+      go (no none) rest = let f = rest none in (suc (f .0), record { row = f .1 .row; is = f .1 .is; has = f .1 .has })
+
+  -- in a table that has it once, there is one such row
+  module _ {r s : Row} (rows : List Row) (once : copies px py rows ≤ 1) (here : 0 < inRow r px py) (there : 0 < inRow s px py) where
+    not-before : (i j : ℕ) → getElem? rows i ≡ some r → getElem? rows j ≡ some s → ¬ (i < j) × ¬ (j < i)
+    not-before i j e f = (
+      λ h. let a = row-taken rows i j e h in let b = row-dropped rows j j f (omega arith) in let c = copies-parts j rows in omega arith,
+      λ h. let a = row-taken rows j i f h in let b = row-dropped rows i i e (omega arith) in let c = copies-parts i rows in omega arith,
+    )
+
+    pub one-row : (i j : ℕ) → getElem? rows i ≡ some r → getElem? rows j ≡ some s → r ≡ s
+    one-row i j e f =
+        let n = not-before i j e f in
+        let same : i ≡ j = go (decLt i j) (decLt j i) (n .0) (n .1) in
+        let g = rw same at e in
+        cc
+      where
+        go : Dec (i < j) → Dec (j < i) → ¬ (i < j) → ¬ (j < i) → i ≡ j
+        go (yes h) _ a b = absurd (a h)
+        go (no h) (yes k) a b = absurd (b k)
+        go (no h) (no k) a b = omega arith
 
 -- ---- tables that have each sample of a picture once at most, and no other
 

@@ -2,7 +2,8 @@
 use Prim.Native.Nat.{ℕ, zero, suc, _+_, _<_}
 use mathlib.Core.Path.{_≡_, refl, subst}
 use mathlib.Core.List.{List, [], _∷_, _++_}
-use lib.ListN.{length}
+use mathlib.Core.Option.{some}
+use lib.ListN.{length, getElem?}
 use native.Mathlib.Nat.{zero-add, suc-add}
 use native.Mathlib.Omega.{arith}
 use Rattle.tree.specs.Rows.{Row}
@@ -19,6 +20,11 @@ module _ {P : Row → Type 0} where
   every-at every-none i h = absurd (omega arith)
   every-at (every-more {a = r} p ps) zero h = record { row = r; is = refl; has = p }
   every-at (every-more {a = r} p ps) (suc i) h = later r (every-at ps i (omega arith))
+
+  pub every-of : {rows : List Row} → Every P rows → {r : Row} (i : ℕ) → getElem? rows i ≡ some r → P r
+  every-of every-none i e = never (cc)
+  every-of (every-more {a = s} p ps) {r} zero e = let same : s ≡ r = cc in subst P same p
+  every-of (every-more p ps) (suc i) e = every-of ps i e
 
   -- in two tables, one after the other
   pub at-front : (first rest : List Row) (i : ℕ) → RowAt P first i → RowAt P (first ++ rest) i

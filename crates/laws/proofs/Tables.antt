@@ -1,5 +1,5 @@
 -- Rows and their bytes: as many rows are read as are asked for, and the bytes of small rows give the rows back.
-use Prim.Native.Nat.{ℕ, zero, suc, _+_, _*_, _%_, _≤_}
+use Prim.Native.Nat.{ℕ, zero, suc, _+_, _*_, _%_, _≤_, _<_}
 use mathlib.Core.Path.{_≡_, refl, sym, ap, ap₂, _∙_}
 use mathlib.Core.List.{List, _∷_, _++_, append-assoc}
 use lib.ListN.{length, getD, length-append}
@@ -13,6 +13,13 @@ pub rows-long : (m : ℕ) (bytes : List ℕ) (i : ℕ) → length (rowsAt m byte
 unfolding rowsAt
 rows-long zero bytes i = refl
 rows-long (suc m) bytes i = ap suc (rows-long m bytes (i + 8))
+
+-- what holds of the rows holds of each of them
+pub row-has : {P : Row → Type 0} (n k : ℕ) (bytes : List ℕ) (i : ℕ) → k < n → Every P (rowsAt n bytes i) → P (rowAt bytes (i + k * 8))
+unfolding rowsAt
+row-has zero k bytes i h all = absurd (omega arith)
+row-has (suc n) zero bytes i h (every-more p ps) = let e : i + 0 * 8 ≡ i = omega arith in rw e p
+row-has (suc n) (suc k) bytes i h (every-more p ps) = let e : i + 8 + k * 8 ≡ i + suc k * 8 = omega arith in rw e at (row-has n k bytes (i + 8) (omega arith) ps)
 
 -- ---- one row, between other bytes
 

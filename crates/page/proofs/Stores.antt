@@ -70,12 +70,6 @@ rows-next (suc k) bytes i =
     let e : i + 8 + k * 8 ≡ i + suc k * 8 = omega arith in
     ap (λ rest. rowAt bytes i ∷ rest) (rows-next k bytes (i + 8) ∙ rw e)
 
-pub row-has : {P : Row → Type 0} (n k : ℕ) (bytes : List ℕ) (i : ℕ) → k < n → Every P (rowsAt n bytes i) → P (rowAt bytes (i + k * 8))
-unfolding rowsAt
-row-has zero k bytes i h all = absurd (omega arith)
-row-has (suc n) zero bytes i h (every-more p ps) = let e : i + 0 * 8 ≡ i = omega arith in rw e p
-row-has (suc n) (suc k) bytes i h (every-more p ps) = let e : i + 8 + k * 8 ≡ i + suc k * 8 = omega arith in rw e at (row-has n k bytes (i + 8) (omega arith) ps)
-
 -- ---- the lines of a page
 
 lines-next : (address : ℕ) (rows : List Row) (r : Row) → lines address (rows ++ (r ∷ [])) ≡ lines address rows ++ line address r

@@ -67,8 +67,7 @@ loop-again c =
     let wide = w .width .result / 4 in
     let row = w .before .args .row in
     let k = l .loop .k in
-    let i = l .loop .inv in
-    (
+    let i = l .loop .inv in (
       omega arith,
       ap length (c .fill-line .ensures) ∙ length-sets (l .loop .map) (corner + k * 32) (replicate wide row) ∙ i .1,
       rw (c .fill-line .ensures) (lines-next corner wide high row (l .loop .map) k (c .before .before .loop-test .taken) ∙ i .2),

@@ -6,8 +6,9 @@ use lib.ListN.{length}
 use denote.Ref.{now}
 use Rattle.tree.specs.Rows.{rowAt}
 use Rattle.laws.specs.Geometry.{SmallRow}
+use Rattle.laws.proofs.Tables.{row-has}
 use Rattle.page.proofs.Fitting.{line-long}
-use Rattle.page.proofs.Stores.{row-has, Begun, begun-none, as-line, begun-next}
+use Rattle.page.proofs.Stores.{Begun, begun-none, as-line, begun-next}
 use Rattle.page.proofs.lines.put_lines.Statement.{statement}
 use Rattle.page.proofs.lines.put_lines.Tie as tie
 

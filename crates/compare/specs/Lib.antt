@@ -1,0 +1,3 @@
+pub mod Finer
+pub mod Compare
+pub mod Tests
