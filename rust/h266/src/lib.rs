@@ -5,9 +5,9 @@
 //! Each node is a [`Node`], its splits are [`Allowed::of`] it, and one recursion in each direction
 //! walks the tree, so that it can be held beside the clauses. It is the other side of the
 //! differential tests and, as safe Rust without special tricks, the yardstick of the benchmark.
-//! [`Board`], which takes tables as the customer's board does, [`page()`], the partition page, and
-//! [`stop()`], which says where a table stops being a tree, are written from the paragraphs of
-//! document 02 that ask for them.
+//! [`Board`], which takes tables as the customer's board does, [`page()`], the partition page,
+//! [`stop()`], which says where a table stops being a tree, and [`compare()`], which says whether one
+//! of two tables is finer, are written from the paragraphs of document 02 that ask for them.
 //!
 //! The calls make the same promises as the engine's C interface. An answer is a pair: 0 and a
 //! count where the call is accepted, else the number of the refusal and its place. A refused call
@@ -30,6 +30,7 @@
 mod allowed;
 mod board;
 pub mod check;
+mod compare;
 mod join;
 mod node;
 mod page;
@@ -46,6 +47,7 @@ mod write;
 
 pub use allowed::Allowed;
 pub use board::{Board, BoardFault, PipelineUnit};
+pub use compare::compare;
 pub use node::Node;
 pub use page::page;
 pub use params::Params;

@@ -1,6 +1,7 @@
 //! Tests of the second decoder; they need no engine.
 
 mod board;
+mod compare;
 mod exhaustive;
 mod page;
 mod paper;

@@ -5,18 +5,23 @@ use samples::{damage, settings, trees, Rng, Style};
 
 const ROOM: usize = 8192;
 
-struct Case {
-    settings: Settings,
-    address: u64,
+pub struct Case {
+    pub settings: Settings,
+    pub address: u64,
     flags: Vec<u8>,
-    rows: Vec<u8>,
+    pub rows: Vec<u8>,
 }
 
 /// A random legal unit and its rows.
-fn case(rng: &mut Rng) -> Case {
+pub fn case(rng: &mut Rng) -> Case {
     let settings = settings::valid(rng);
     let units = Params::new(&settings).expect("valid settings").unit_count();
     let address = rng.draw() % units;
+    case_of(rng, settings, address)
+}
+
+/// A random tree of this unit.
+pub fn case_of(rng: &mut Rng, settings: Settings, address: u64) -> Case {
     let style = rng.pick(&Style::ALL);
     let flags = trees::flags(&settings, address, rng, style);
     let mut rows = vec![0; ROOM];
