@@ -26,13 +26,15 @@
 //! ```
 //!
 //! Single units need no session: [`read_unit`] and [`write_flags`], and [`page()`], which prints the
-//! rows as lines of text. Pictures in H.265 have settings of their own: [`h265`].
+//! rows as lines of text; [`compare()`] says which of two tables of a unit is finer. Pictures in H.265
+//! have settings of their own: [`h265`].
 //!
 //! The static library is looked for in the folder `COLWYTHAR_LIB_DIR`, else in the repository's
 //! `target/staticlib`, where the build script has it proved and built anew whenever its sources change.
 #![warn(missing_docs)]
 
 mod coding;
+mod compare;
 pub mod h265;
 mod page;
 pub mod raw;
@@ -42,6 +44,7 @@ mod session;
 mod settings;
 
 pub use coding::Coding;
+pub use compare::{compare, Finer};
 pub use page::{page, page_text, LINE_BYTES, MAX_PAGE_BYTES};
 pub use refusal::Refusal;
 pub use row::{rows, Row};

@@ -66,4 +66,13 @@ extern "C" {
         page_len: usize,
         answer: *mut u64,
     );
+    pub fn colwythar_compare(
+        settings: *const [u32; 8],
+        address: u64,
+        first: *const u8,
+        first_len: usize,
+        second: *const u8,
+        second_len: usize,
+        answer: *mut u64,
+    );
 }

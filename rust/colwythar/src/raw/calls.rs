@@ -5,6 +5,10 @@
 pub type OnUnit<const N: usize> =
     unsafe extern "C" fn(*const [u32; N], u64, *const u8, usize, *mut u8, usize, *mut u64);
 
+/// A function that takes two tables of a unit, and writes nothing but its answer.
+pub type OnTables<const N: usize> =
+    unsafe extern "C" fn(*const [u32; N], u64, *const u8, usize, *const u8, usize, *mut u64);
+
 /// A function that opens a session.
 pub type Open<const N: usize> = unsafe extern "C" fn(*const [u32; N], *mut u64, *mut u64);
 
@@ -43,6 +47,30 @@ pub fn on_unit<const N: usize>(
             given.len(),
             lent.as_mut_ptr(),
             lent.len(),
+            answer.as_mut_ptr(),
+        );
+    }
+    answer
+}
+
+#[inline(always)]
+pub fn on_tables<const N: usize>(
+    function: OnTables<N>,
+    settings: &[u32; N],
+    address: u64,
+    first: &[u8],
+    second: &[u8],
+) -> [u64; 2] {
+    let mut answer = [0; 2];
+    // SAFETY: as in `on_unit`; both tables are only read, so they may be the same memory.
+    unsafe {
+        function(
+            settings,
+            address,
+            first.as_ptr(),
+            first.len(),
+            second.as_ptr(),
+            second.len(),
             answer.as_mut_ptr(),
         );
     }

@@ -37,6 +37,20 @@ pub fn page(settings: &[u32; 8], address: u64, rows: &[u8], page: &mut [u8]) -> 
     calls::on_unit(c::colwythar_page, settings, address, rows, page)
 }
 
+/// `colwythar_compare`. In place of a count an accepted call answers 0 for equal blocks, 1 where the
+/// first table is finer, 2 where the second is, and 3 where neither is.
+///
+/// ```
+/// let settings = [64, 4, 8, 3, 32, 32, 64, 64];
+/// let whole = [0, 0, 0, 0, 6, 6, 0, 0];
+/// assert_eq!(colwythar::raw::compare(&settings, 0, &whole, &whole), [0, 0]);
+/// assert_eq!(colwythar::raw::compare(&settings, 0, &whole, &[]), [27, 0]);
+/// ```
+#[inline]
+pub fn compare(settings: &[u32; 8], address: u64, first: &[u8], second: &[u8]) -> [u64; 2] {
+    calls::on_tables(c::colwythar_compare, settings, address, first, second)
+}
+
 /// `colwythar_open`. `due` is set where the opening is accepted, and left as it was where not.
 #[inline]
 pub fn open(settings: &[u32; 8], due: &mut u64) -> [u64; 2] {
