@@ -7,16 +7,14 @@
 
 mod fault;
 mod model;
-mod tree;
 
 use std::time::{Duration, Instant};
 
 use h266::check::unit_root;
 use h266::{Node, Params, Settings};
-use samples::{hardest, settings, Rng};
+use samples::{hardest, settings, Rng, Tree};
 
 use fault::Fault;
-use tree::Tree;
 
 /// How long one climb takes; then other settings have their turn.
 const CLIMB: Duration = Duration::from_secs(60);
@@ -112,9 +110,8 @@ impl Unit {
 
     /// The flags of a tree, as digits.
     fn flags(&self, settings: &Settings, tree: &Tree) -> String {
-        let (mut rows, mut flags) = (Vec::new(), [0; 8_192]);
-        tree.rows(&self.params, &self.root, &mut rows);
-        let table: Vec<u8> = rows.iter().flat_map(|row| row.to_bytes()).collect();
+        let mut flags = [0; 8_192];
+        let table = tree.table(&self.params, &self.root);
         let (number, count) = h266::write_flags(settings, 0, &table, &mut flags);
         assert_eq!(number, 0, "a legal tree");
         flags[..count as usize].iter().map(|flag| char::from(b'0' + flag)).collect()

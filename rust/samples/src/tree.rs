@@ -1,18 +1,27 @@
 //! Trees that are changed at random.
 
 use h266::{Allowed, Node, Params, Row, Split};
-use samples::Rng;
+
+use crate::Rng;
 
 /// A coding tree.
-#[derive(Clone)]
+#[derive(Clone, Debug, PartialEq, Eq)]
 pub enum Tree {
+    /// A coding block.
     Leaf,
+    /// A split, and the trees of its parts that begin inside the picture.
     Split(Split, Vec<Tree>),
 }
 
 /// The nodes of the parts of a split.
 fn parts(params: &Params, node: &Node, split: Split) -> impl Iterator<Item = Node> {
     node.parts(params, split).into_iter().flatten()
+}
+
+/// The splits that are open to a node.
+pub(crate) fn open(params: &Params, node: &Node) -> Vec<Split> {
+    let allowed = Allowed::of(params, node);
+    Split::ALL.into_iter().filter(|&split| allowed.has(split)).collect()
 }
 
 /// Do two nodes have the same sides?
@@ -23,8 +32,7 @@ fn same_size(one: &Node, other: &Node) -> bool {
 impl Tree {
     /// A random tree of a node; so many of 100 nodes are leaves that need not be.
     pub fn grow(params: &Params, node: &Node, rng: &mut Rng, leaves: usize) -> Self {
-        let allowed = Allowed::of(params, node);
-        let open: Vec<_> = Split::ALL.into_iter().filter(|&split| allowed.has(split)).collect();
+        let open = open(params, node);
         if params.inside(node) && (open.is_empty() || rng.percent(leaves)) {
             return Self::Leaf;
         }
@@ -52,8 +60,15 @@ impl Tree {
         }
     }
 
+    /// The table of this tree of a unit.
+    pub fn table(&self, params: &Params, root: &Node) -> Vec<u8> {
+        let mut rows = Vec::new();
+        self.rows(params, root, &mut rows);
+        rows.into_iter().flat_map(Row::to_bytes).collect()
+    }
+
     /// Is this a tree that the node may have?
-    fn is_legal(&self, params: &Params, node: &Node) -> bool {
+    pub(crate) fn is_legal(&self, params: &Params, node: &Node) -> bool {
         match self {
             Self::Leaf => params.inside(node),
             Self::Split(split, trees) => {
@@ -95,15 +110,29 @@ impl Tree {
 
     /// Grows the tree at one place anew.
     pub fn regrow(&mut self, params: &Params, root: &Node, place: usize, rng: &mut Rng) {
-        let (leaves, mut count) = (rng.pick(&[0, 0, 0, 3, 10, 25]), 0);
+        let leaves = rng.pick(&[0, 0, 0, 3, 10, 25]);
+        self.change(params, root, place, |_, node| Some(Self::grow(params, node, rng, leaves)));
+    }
+
+    /// Changes the first tree, from one place on, of which `other` makes another. Answers whether
+    /// there is one.
+    pub(crate) fn change(
+        &mut self,
+        params: &Params,
+        root: &Node,
+        from: usize,
+        mut other: impl FnMut(&Self, &Node) -> Option<Self>,
+    ) -> bool {
+        let mut count = 0;
         self.walk(params, root, &mut |tree, node| {
             count += 1;
-            let here = count > place;
-            if here {
-                *tree = Self::grow(params, node, rng, leaves);
+            let other = if count > from { other(tree, node) } else { None };
+            match other {
+                Some(other) => *tree = other,
+                None => return false,
             }
-            here
-        });
+            true
+        })
     }
 
     /// Puts a tree in place of those of all nodes of this size that may have it, or of the first
