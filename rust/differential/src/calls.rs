@@ -3,7 +3,7 @@
 use colwythar::{max_flags_of_rows, MAX_FLAGS};
 use samples::{damage, Rng};
 
-use crate::{pages, stops, Coding, Engine};
+use crate::{comparisons, pages, stops, Coding, Engine};
 
 /// As much as the rows or flags of any unit need.
 pub(crate) const ROOM: usize = 8_192;
@@ -29,6 +29,7 @@ pub fn round<S: Coding>(engine: &mut Engine<S>, rng: &mut Rng) {
     damaged_rows(engine, rng, &unit);
     lawless_rows(engine, rng, &unit);
     stops::around(engine, rng, &unit);
+    comparisons::others(engine, rng, &unit);
     other_limits(engine, rng, &unit);
     no_such_unit(engine, rng, &unit);
     broken_settings(engine, rng, &unit);
@@ -60,6 +61,7 @@ pub fn all_units<S: Coding>(engine: &mut Engine<S>, rng: &mut Rng, settings: S) 
             rooms(engine, rng, &unit);
             damaged_flags(engine, rng, &unit);
             damaged_rows(engine, rng, &unit);
+            comparisons::others(engine, rng, &unit);
         }
     }
 }
@@ -102,6 +104,7 @@ fn drawn_flags<S: Coding>(engine: &mut Engine<S>, rng: &mut Rng, unit: &Unit<S>)
     assert_eq!(read.number, 0, "a whole tree is refused: {settings:?} {address} {flags:?}");
     let back = engine.write(rng, settings, *address, &read.written, ROOM);
     assert_eq!(back.written, flags, "the way back gave other flags: {settings:?} {address}");
+    comparisons::beside(engine, rng, settings, *address, &unit.rows, &read.written);
 }
 
 /// Flags that are changed, cut or extended; also with a short buffer, which is seen later.
@@ -117,11 +120,14 @@ fn damaged_flags<S: Coding>(engine: &mut Engine<S>, rng: &mut Rng, unit: &Unit<S
     }
 }
 
-/// Tables that are changed, cut or extended; also with a short buffer, which is seen later.
+/// Tables that are changed, cut or extended; also with a short buffer, which is seen later. Each is
+/// compared with the one before it, of which the first is the unit's own.
 fn damaged_rows<S: Coding>(engine: &mut Engine<S>, rng: &mut Rng, unit: &Unit<S>) {
     let mut rows = unit.rows.clone();
     for _ in 0..5 {
+        let before = rows.clone();
         damage::rows(rng, &mut rows);
+        comparisons::beside(engine, rng, &unit.settings, unit.address, &before, &rows);
         let room = if rng.percent(70) { ROOM } else { room(rng, unit.flags.len()) };
         pages::beside(engine, rng, &unit.settings, unit.address, &rows, room);
         if rng.percent(60) {
@@ -135,6 +141,7 @@ fn lawless_rows<S: Coding>(engine: &mut Engine<S>, rng: &mut Rng, unit: &Unit<S>
     for _ in 0..3 {
         let rows = unit.settings.lawless_rows(unit.address, rng);
         pages::beside(engine, rng, &unit.settings, unit.address, &rows, ROOM);
+        comparisons::beside(engine, rng, &unit.settings, unit.address, &unit.rows, &rows);
     }
 }
 
@@ -143,6 +150,7 @@ fn other_limits<S: Coding>(engine: &mut Engine<S>, rng: &mut Rng, unit: &Unit<S>
     let settings = unit.settings.neighbour(rng);
     engine.read(rng, &settings, unit.address, &unit.flags, ROOM);
     pages::beside(engine, rng, &settings, unit.address, &unit.rows, ROOM);
+    comparisons::beside(engine, rng, &settings, unit.address, &unit.rows, &unit.rows);
 }
 
 /// Addresses from the unit count on, and other units' addresses for this unit's data, which may be
@@ -156,6 +164,7 @@ fn no_such_unit<S: Coding>(engine: &mut Engine<S>, rng: &mut Rng, unit: &Unit<S>
     for address in [beyond, other] {
         engine.read(rng, &unit.settings, address, &flags, ROOM);
         pages::beside(engine, rng, &unit.settings, address, &rows, ROOM);
+        comparisons::beside(engine, rng, &unit.settings, address, &unit.rows, &rows);
     }
 }
 
@@ -179,4 +188,5 @@ fn broken_settings<S: Coding>(engine: &mut Engine<S>, rng: &mut Rng, unit: &Unit
     engine.read(rng, &settings, address, &flags, lent);
     let lent = room(rng, flags.len());
     pages::beside(engine, rng, &settings, address, &rows, lent);
+    comparisons::beside(engine, rng, &settings, address, &rows, &unit.rows);
 }

@@ -15,6 +15,13 @@ impl Lent {
         Self(rng.bytes(length + 2 * GUARD))
     }
 
+    /// A buffer that holds these bytes.
+    pub(crate) fn of(rng: &mut Rng, bytes: &[u8]) -> Self {
+        let mut lent = Self::new(rng, bytes.len());
+        lent.part().copy_from_slice(bytes);
+        lent
+    }
+
     /// The part to lend.
     pub(crate) fn part(&mut self) -> &mut [u8] {
         let end = self.0.len() - GUARD;

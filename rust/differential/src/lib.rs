@@ -9,8 +9,8 @@
 //! random legal trees, damaged flags and tables, every width and height at the edges, broken
 //! settings, lent buffers of every kind of length, whole sessions, small units in full, and the
 //! units with the most flags. Tables are also cut, go on after their end, and have rows changed,
-//! exchanged, left out and doubled. All tables of H.266 are also printed as pages, which `tuned` does
-//! not have.
+//! exchanged, left out and doubled. All tables of H.266 are also printed as pages, and most are compared
+//! with another table of the unit, in both orders; `tuned` has neither.
 //!
 //! `h266` and `h265` share nothing with the engine, nor with each other. `tuned` takes from `h266` the
 //! check of the settings, the rules of open splits and where a refused table stops being a tree, and so
@@ -30,6 +30,8 @@
 mod call;
 pub mod calls;
 mod coding;
+mod compare;
+pub mod comparisons;
 mod engine;
 mod lent;
 pub mod pages;
@@ -39,6 +41,6 @@ mod stops;
 mod tally;
 
 pub use call::Outcome;
-pub use coding::{Coding, OnUnit, Opening, Side};
+pub use coding::{Coding, OnTables, OnUnit, Opening, Side};
 pub use engine::{Engine, UnitCall};
 pub use tally::{Entry, Tally};

@@ -2,11 +2,14 @@
 
 use std::collections::BTreeSet;
 
-use samples::brute::{all_trees, Beginnings, Trees};
+use samples::brute::{all_trees, tables, Beginnings, Trees};
 use samples::{damage, Rng};
 
 use crate::calls::ROOM;
-use crate::{pages, Coding, Engine};
+use crate::{comparisons, pages, Coding, Engine};
+
+/// The most trees of a unit whose tables are all compared with each other.
+const PAIRED: usize = 60;
 
 /// Checks a unit in full and answers how many trees it has, or nothing where there are more than
 /// `limit`.
@@ -28,6 +31,9 @@ pub fn unit<S: Coding>(
     let trees = all_trees(limit, read).expect("as many trees on both sides");
     assert!(trees == expected, "other trees: {settings:?}, unit {address}");
     way_back(engine, rng, settings, address, &trees);
+    if trees.len() <= PAIRED {
+        comparisons::all_pairs(engine, rng, settings, address, &tables(&trees));
+    }
     Some(trees.len())
 }
 

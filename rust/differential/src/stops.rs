@@ -3,7 +3,7 @@
 use samples::{broken, Rng};
 
 use crate::calls::{legal, Unit, ROOM};
-use crate::{pages, Coding, Engine, Outcome};
+use crate::{comparisons, pages, Coding, Engine, Outcome};
 
 /// More rows than any unit has.
 const MANY: usize = 1_100;
@@ -20,13 +20,14 @@ pub(crate) fn around<S: Coding>(engine: &mut Engine<S>, rng: &mut Rng, unit: &Un
     elsewhere(engine, rng, unit);
 }
 
-/// What all sides answer to rows of this unit.
+/// What all sides answer to rows of this unit, which are also compared with its own.
 fn answer<S: Coding>(
     engine: &mut Engine<S>,
     rng: &mut Rng,
     unit: &Unit<S>,
     rows: &[u8],
 ) -> Outcome {
+    comparisons::beside(engine, rng, &unit.settings, unit.address, &unit.rows, rows);
     pages::beside(engine, rng, &unit.settings, unit.address, rows, ROOM)
 }
 

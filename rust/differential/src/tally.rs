@@ -3,6 +3,8 @@
 use std::fmt;
 use std::marker::PhantomData;
 
+use h266::Answer;
+
 use crate::Coding;
 
 /// One above the greatest number of a refusal.
@@ -17,6 +19,8 @@ pub enum Entry {
     Write,
     /// Rows to a page.
     Page,
+    /// Two tables of a unit.
+    Compare,
     /// Opening a session.
     Open,
     /// Counting the units of a picture.
@@ -27,8 +31,8 @@ pub enum Entry {
 
 impl Entry {
     /// All of them.
-    pub const ALL: [Self; 6] =
-        [Self::Read, Self::Write, Self::Page, Self::Open, Self::Count, Self::Unit];
+    pub const ALL: [Self; 7] =
+        [Self::Read, Self::Write, Self::Page, Self::Compare, Self::Open, Self::Count, Self::Unit];
 
     /// The refusals that this function of a coding can give.
     pub fn numbers<S: Coding>(self) -> Vec<usize> {
@@ -36,6 +40,7 @@ impl Entry {
             Self::Read => &[10, 11, 12, 13, 14],
             Self::Write => &[10, 15, 16, 17, 27, 28],
             Self::Page => &[10, 15, 16, 23, 27, 28],
+            Self::Compare => &[10, 15, 16, 27, 28],
             Self::Open | Self::Count => &[],
             Self::Unit => return vec![11, 12, 13, 14, 20, 21, 22],
         };
@@ -47,12 +52,15 @@ impl Entry {
 #[derive(Clone, Debug)]
 pub struct Tally<S> {
     answers: [[u64; NUMBERS]; Entry::ALL.len()],
+    /// Accepted comparisons by what they answered.
+    finer: [u64; 4],
     coding: PhantomData<S>,
 }
 
 impl<S: Coding> Default for Tally<S> {
     fn default() -> Self {
-        Self { answers: [[0; NUMBERS]; Entry::ALL.len()], coding: PhantomData }
+        let answers = [[0; NUMBERS]; Entry::ALL.len()];
+        Self { answers, finer: [0; 4], coding: PhantomData }
     }
 }
 
@@ -64,6 +72,23 @@ impl<S: Coding> Tally<S> {
     /// Where there is no such number.
     pub fn count(&mut self, entry: Entry, number: u64) {
         self.answers[entry as usize][number as usize] += 1;
+    }
+
+    /// Counts what a comparison answered: equal blocks, the first finer, the second, or neither.
+    ///
+    /// # Panics
+    ///
+    /// Where it answered another number.
+    pub fn count_comparison(&mut self, (number, value): Answer) {
+        self.count(Entry::Compare, number);
+        if number == 0 {
+            self.finer[value as usize] += 1;
+        }
+    }
+
+    /// How often comparisons answered 0, 1, 2 and 3.
+    pub fn finer(&self) -> [u64; 4] {
+        self.finer
     }
 
     /// How often this function gave this number; 0 stands for accepted.
@@ -82,6 +107,9 @@ impl<S: Coding> Tally<S> {
     ///
     /// Where one did not.
     pub fn assert_each(&self, entry: Entry, least: u64) {
+        if entry == Entry::Compare {
+            assert!(self.finer.iter().all(|&times| times >= least), "{self}");
+        }
         for number in [vec![0], entry.numbers::<S>()].concat() {
             let times = self.of(entry, number);
             assert!(times >= least, "{entry:?} answered {number} only {times} times:\n{self}");
@@ -95,7 +123,12 @@ impl<S: Coding> fmt::Display for Tally<S> {
             if self.answers[entry as usize].iter().all(|&times| times == 0) {
                 continue;
             }
-            write!(f, "{entry:?}: {} accepted; refused", self.of(entry, 0))?;
+            write!(f, "{entry:?}: {} accepted", self.of(entry, 0))?;
+            if entry == Entry::Compare {
+                let [equal, first, second, neither] = self.finer;
+                write!(f, " (equal {equal}, first {first}, second {second}, neither {neither})")?;
+            }
+            write!(f, "; refused")?;
             for number in entry.numbers::<S>() {
                 write!(f, " {number}: {}", self.of(entry, number))?;
             }

@@ -1,9 +1,10 @@
 //! H.265: the engine and `h265`.
 
 use colwythar::raw;
+use samples::relatives::Change;
 use samples::{quads, Rng};
 
-use super::{Coding, OnUnit, Opening, Side};
+use super::{Coding, OnTables, OnUnit, Opening, Side};
 
 impl Coding for h265::Settings {
     const SIDES: &[Side<Self>] = &[
@@ -22,6 +23,7 @@ impl Coding for h265::Settings {
         Opening { open: h265::open, count: h265::unit_count },
     ];
     const PAGES: &[OnUnit<Self>] = &[];
+    const COMPARISONS: &[OnTables<Self>] = &[];
     const FAULTS: &[usize] = &quads::FAULTS;
     type Style = usize;
     const STYLES: &[usize] = &quads::STYLES;
@@ -68,5 +70,9 @@ impl Coding for h265::Settings {
 
     fn lawless_rows(&self, address: u64, rng: &mut Rng) -> Vec<u8> {
         quads::lawless_rows(self, address, rng)
+    }
+
+    fn related(&self, _: u64, _: &mut Rng, _: Change) -> Option<[Vec<u8>; 2]> {
+        None
     }
 }

@@ -1,9 +1,10 @@
 //! H.266: the engine, `h266` and `tuned`.
 
 use colwythar::raw;
+use samples::relatives::{self, Change};
 use samples::{settings, trees, Rng, Style};
 
-use super::{Coding, OnUnit, Opening, Side};
+use super::{Coding, OnTables, OnUnit, Opening, Side};
 
 impl Coding for h266::Settings {
     const SIDES: &[Side<Self>] = &[
@@ -21,6 +22,8 @@ impl Coding for h266::Settings {
     ];
     const PAGES: &[OnUnit<Self>] =
         &[|s, at, rows, lent| raw::page(s, at, rows, lent).into(), h266::page];
+    const COMPARISONS: &[OnTables<Self>] =
+        &[|s, at, first, second| raw::compare(s, at, first, second).into(), h266::compare];
     const FAULTS: &[usize] = &[1, 2, 3, 4, 5, 6, 7, 8, 9];
     type Style = Style;
     const STYLES: &[Style] = &Style::ALL;
@@ -67,5 +70,9 @@ impl Coding for h266::Settings {
 
     fn lawless_rows(&self, address: u64, rng: &mut Rng) -> Vec<u8> {
         trees::lawless_rows(self, address, rng)
+    }
+
+    fn related(&self, address: u64, rng: &mut Rng, change: Change) -> Option<[Vec<u8>; 2]> {
+        relatives::tables(rng, self, address, change)
     }
 }

@@ -6,6 +6,7 @@ mod h266;
 use std::fmt::Debug;
 
 use ::h266::Answer;
+use samples::relatives::Change;
 use samples::Rng;
 
 /// The calls of one side on units: the engine's, or a decoder's.
@@ -20,6 +21,9 @@ pub struct Side<S> {
 
 /// A call on a unit at an address: what is given, and the lent buffer.
 pub type OnUnit<S> = fn(&S, u64, &[u8], &mut [u8]) -> Answer;
+
+/// A call on two tables of the unit at an address.
+pub type OnTables<S> = fn(&S, u64, &[u8], &[u8]) -> Answer;
 
 /// The calls of one side on settings.
 pub struct Opening<S> {
@@ -37,6 +41,8 @@ pub trait Coding: Copy + Debug + Sized + 'static {
     const OPENINGS: [Opening<Self>; 2];
     /// Those that print pages; H.265 has no page.
     const PAGES: &[OnUnit<Self>];
+    /// Those that compare tables; H.265 has no comparison.
+    const COMPARISONS: &[OnTables<Self>];
     /// The refusals of settings, in the order of the checks.
     const FAULTS: &[usize];
     /// What kind of tree to grow.
@@ -64,6 +70,9 @@ pub trait Coding: Copy + Debug + Sized + 'static {
     fn flags(&self, address: u64, rng: &mut Rng, style: Self::Style) -> Vec<u8>;
     /// The rows of a tree that breaks a rule somewhere.
     fn lawless_rows(&self, address: u64, rng: &mut Rng) -> Vec<u8>;
+    /// The tables of a random tree before and after a change, if the coding has comparisons and the
+    /// tree can be changed so.
+    fn related(&self, address: u64, rng: &mut Rng, change: Change) -> Option<[Vec<u8>; 2]>;
 
     /// The flags of a random tree of any kind.
     fn any_flags(&self, address: u64, rng: &mut Rng) -> Vec<u8> {

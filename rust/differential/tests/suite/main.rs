@@ -1,6 +1,7 @@
 //! The engine against `h266` and `tuned`, and for H.265 against `h265`: at least 200,000 calls on each,
 //! with fixed seeds.
 
+mod comparisons;
 mod h265;
 mod pages;
 mod stops;
@@ -25,15 +26,16 @@ fn single_units() {
     let tally = &engine.tally;
     println!("{tally}");
     assert!(tally.calls() >= 150_000, "{tally}");
-    for entry in [Entry::Read, Entry::Write, Entry::Page, Entry::Open, Entry::Count] {
-        tally.assert_each(entry, 300);
-    }
+    let entries =
+        [Entry::Read, Entry::Write, Entry::Page, Entry::Compare, Entry::Open, Entry::Count];
+    entries.into_iter().for_each(|entry| tally.assert_each(entry, 300));
     assert!(tally.of(Entry::Read, 0) >= 20_000, "{tally}");
     assert!(tally.of(Entry::Write, 0) >= 15_000, "{tally}");
     assert!(tally.of(Entry::Page, 0) >= 20_000, "{tally}");
     for number in [16, 27, 28] {
         assert!(tally.of(Entry::Write, number) >= 15_000, "{tally}");
         assert!(tally.of(Entry::Page, number) >= 15_000, "{tally}");
+        assert!(tally.of(Entry::Compare, number) >= 15_000, "{tally}");
     }
 }
 
@@ -54,6 +56,7 @@ fn edges() {
     }
     println!("{}", engine.tally);
     assert!(engine.tally.calls() >= 100_000, "{}", engine.tally);
+    assert!(engine.tally.finer().iter().all(|&times| times >= 10_000), "{}", engine.tally);
     for (number, least) in
         [(0, 15_000), (15, 15_000), (16, 15_000), (23, 15_000), (27, 5_000), (28, 5_000)]
     {
@@ -88,6 +91,8 @@ fn small_units_in_full() {
     }
     println!("{units} units, {trees} trees\n{}", engine.tally);
     assert!(units >= 500 && trees >= 5_000, "{units} units, {trees} trees");
+    // All pairs of the tables of those with the fewest trees.
+    assert!(engine.tally.finer().iter().all(|&times| times >= 15_000), "{}", engine.tally);
     assert!(engine.tally.calls() >= 20_000, "{}", engine.tally);
 }
 
