@@ -23,6 +23,8 @@ pub struct Unit<S = h266::Settings> {
     pub address: u64,
     pub flags: Vec<u8>,
     pub rows: Vec<u8>,
+    /// The rows to compare its own with, where they are compared.
+    pub other: Vec<u8>,
 }
 
 impl Unit {
@@ -33,7 +35,19 @@ impl Unit {
         let (number, count) = h266::read_unit(&settings, address, &flags, &mut rows);
         assert_eq!(number, 0, "a legal tree");
         rows.truncate(8 * count as usize);
-        Self { settings, address, flags, rows }
+        Self { settings, address, flags, rows, other: Vec::new() }
+    }
+
+    /// The rows of another tree of this unit, of one of these styles; there are as many, but for an
+    /// eighth of them.
+    fn grow_other(&self, rng: &mut Rng, styles: &[Style]) -> Vec<u8> {
+        loop {
+            let style = rng.pick(styles);
+            let other = Self::grow(rng, self.settings, self.address, style);
+            if 8 * other.row_count().abs_diff(self.row_count()) <= self.row_count() {
+                return other.rows;
+            }
+        }
     }
 
     /// Does all of it lie inside the picture?
@@ -70,6 +84,17 @@ impl<S> Class<S> {
     }
 }
 
+impl Class {
+    /// The same units, with rows to compare theirs with, of trees of these styles.
+    fn with_others(mut self, styles: &[Style]) -> Self {
+        let mut rng = Rng::new(8);
+        for unit in &mut self.units {
+            unit.other = unit.grow_other(&mut rng, styles);
+        }
+        self
+    }
+}
+
 /// All classes, with fixed seeds.
 pub fn all() -> [Class; 5] {
     [one_row(), mixed(), about_64(), full(), quads()]
@@ -84,6 +109,7 @@ fn one_row() -> Class {
             unit.settings[0] >= 64 && unit.is_inside() && unit.flags == [0]
         })
     })
+    .with_others(&[Style::Shallow])
 }
 
 /// Random units of 20 to 120 rows, all settings and edges mixed.
@@ -92,6 +118,7 @@ fn mixed() -> Class {
     Class::of("mixed", "20 to 120 rows", || {
         random(&mut rng, &Style::ALL, |unit| (20..=120).contains(&unit.row_count()))
     })
+    .with_others(&Style::ALL)
 }
 
 /// Random units of 56 to 72 rows.
@@ -100,9 +127,11 @@ fn about_64() -> Class {
     Class::of("64", "about 64 rows", || {
         random(&mut rng, &Style::ALL, |unit| (56..=72).contains(&unit.row_count()))
     })
+    .with_others(&Style::ALL)
 }
 
-/// Units of the recorder that are all blocks of 4 by 4, by different trees.
+/// Units of the recorder that are all blocks of 4 by 4, by different trees, and so are those that they
+/// are compared with.
 fn full() -> Class {
     let mut rng = Rng::new(4);
     Class::of("1024", "1,024 rows", || {
@@ -111,10 +140,11 @@ fn full() -> Class {
         assert_eq!(unit.row_count(), 1024);
         unit
     })
+    .with_others(&[Style::Smallest])
 }
 
 /// Units that are all blocks of 4 by 4 by quad splits alone: 341 flags of 1. They differ in their
-/// address only.
+/// address only, and are compared with the same rows.
 fn quads() -> Class {
     let mut rng = Rng::new(5);
     Class::of("quads", "1,024 rows by quads", || {
@@ -123,6 +153,7 @@ fn quads() -> Class {
         assert_eq!((unit.row_count(), unit.flags.as_slice()), (1024, &[1; 341][..]));
         unit
     })
+    .with_others(&[Style::Smallest])
 }
 
 /// Random units until one is wanted.

@@ -22,14 +22,16 @@ usage: bench
        bench callgrind WORK CLASS CALLS
        bench search SECONDS SEED
 
-Without arguments: times reading, the way back and the page for five classes of units, the refusal
-of broken tables, a worst-case second of four cameras, and units in H.265, and prints Markdown
-tables. Each side is warmed up; the sides take turns within each round, and the best round counts.
+Without arguments: times reading, the way back, the page and the comparison for five classes of
+units, the refusal of broken tables, a worst-case second of four cameras, and units in H.265, and
+prints Markdown tables. Each side is warmed up; the sides take turns within each round, and the best
+round counts.
 
 callgrind: makes CALLS calls of one kind, without a clock. WORK is a side (engine, h266 or
-tuned) and a way (read, write or page), like engine-read; tuned has no page. CLASS is 1, mixed, 64,
-1024 or quads. In H.265 a side is engine or h265, a way read or write, and CLASS h265-1 or h265-64.
-Calls go round the 256 units of the class, so a multiple of 256 weighs them equally.
+tuned) and a way (read, write, page or compare), like engine-read; tuned has no page and no compare.
+CLASS is 1, mixed, 64, 1024 or quads. In H.265 a side is engine or h265, a way read or write, and
+CLASS h265-1 or h265-64. Calls go round the 256 units of the class, so a multiple of 256 weighs them
+equally.
 To count only the instructions of the calls:
 
   valgrind --tool=callgrind --callgrind-out-file=/dev/null \\
@@ -50,6 +52,7 @@ fn main() -> ExitCode {
         [] => {
             timing::print_table();
             timing::print_pages();
+            timing::print_comparisons();
             broken::print_refusals();
             camera::print_second();
             quads::print_table();

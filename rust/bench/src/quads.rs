@@ -55,10 +55,10 @@ fn unit(address: u64, flags: &[u8]) -> Unit<Settings> {
     let (number, count) = h265::read_unit(&RECORDER, address, flags, &mut rows);
     assert_eq!(number, 0, "a legal tree");
     rows.truncate(8 * count as usize);
-    Unit { settings: RECORDER, address, flags: flags.to_vec(), rows }
+    Unit { settings: RECORDER, address, flags: flags.to_vec(), rows, other: Vec::new() }
 }
 
-/// The sides' names and work; there are no pages.
+/// The sides' names and work; there are no pages, and no comparisons.
 pub fn works(way: Way) -> Option<[(&'static str, Work<Settings>); 2]> {
     let calls: [Call<Settings>; 2] = match way {
         Way::Read => [
@@ -69,7 +69,7 @@ pub fn works(way: Way) -> Option<[(&'static str, Work<Settings>); 2]> {
             |u, lent| raw::h265::write_flags(&u.settings, u.address, &u.rows, lent).into(),
             |u, lent| h265::write_flags(&u.settings, u.address, &u.rows, lent),
         ],
-        Way::Page => return None,
+        Way::Page | Way::Compare => return None,
     };
     let [engine, h265] = calls.map(|call| Work { call, room: way.room() });
     Some([("engine", engine), ("h265", h265)])

@@ -38,20 +38,34 @@ fn print_line(class: &Class, way: Way) {
     println!(" {:.2} | {:.2} |", h266 / engine, tuned / engine);
 }
 
-/// Prints a line for each class: its pages, beside the engine's way back of the same rows.
+/// Prints a line for each class: the pages of its rows.
 pub fn print_pages() {
     println!("\nThe page of the same rows; nanoseconds, as above.\n");
+    print_beside_back(Way::Page);
+}
+
+/// Prints a line for each class: its rows compared with others of the same units.
+pub fn print_comparisons() {
+    println!(
+        "\nThe same rows compared with those of another tree of the unit, of about as many; one"
+    );
+    println!("row and the rows by quads with themselves. Nanoseconds, as above.\n");
+    print_beside_back(Way::Compare);
+}
+
+/// A way that `tuned` does not have, beside the engine's way back of the same rows.
+fn print_beside_back(way: Way) {
     print!("| units | rows | engine, unit | engine, row | h266, unit | h266, row |");
-    println!(" h266/engine | engine's page/way back |");
+    println!(" h266/engine | engine's {}/way back |", way.title());
     println!("|---|--:|--:|--:|--:|--:|--:|--:|");
     for class in classes::all() {
-        print_page_line(&class);
+        print_line_beside_back(&class, way);
     }
 }
 
-fn print_page_line(class: &Class) {
+fn print_line_beside_back(class: &Class, way: Way) {
     let rows = class.mean_rows();
-    let (engine, h266) = (work(Side::Engine, Way::Page), work(Side::H266, Way::Page));
+    let (engine, h266) = (work(Side::Engine, way), work(Side::H266, way));
     let [back, engine, h266] = measure(class, [work(Side::Engine, Way::Write), engine, h266]);
     print!("| {} | {rows:.1} |", class.title);
     for time in [engine, h266] {

@@ -32,16 +32,18 @@ pub enum Way {
     Read,
     Write,
     Page,
+    Compare,
 }
 
 impl Way {
-    pub const ALL: [Self; 3] = [Self::Read, Self::Write, Self::Page];
+    pub const ALL: [Self; 4] = [Self::Read, Self::Write, Self::Page, Self::Compare];
 
     pub fn name(self) -> &'static str {
         match self {
             Self::Read => "read",
             Self::Write => "write",
             Self::Page => "page",
+            Self::Compare => "compare",
         }
     }
 
@@ -50,6 +52,7 @@ impl Way {
             Self::Read => "reading",
             Self::Write => "way back",
             Self::Page => "page",
+            Self::Compare => "comparison",
         }
     }
 
@@ -58,6 +61,7 @@ impl Way {
         match self {
             Self::Read | Self::Write => ROOM,
             Self::Page => MAX_PAGE_BYTES,
+            Self::Compare => 0,
         }
     }
 }
@@ -74,7 +78,8 @@ pub struct Work<S = h266::Settings> {
 }
 
 impl Work {
-    /// The work of one side and way, where the side has this way: `tuned` has no pages.
+    /// The work of one side and way, where the side has this way: `tuned` has no pages, and compares
+    /// nothing.
     pub fn of(side: Side, way: Way) -> Option<Self> {
         Some(Self { call: call(side, way)?, room: way.room() })
     }
@@ -92,6 +97,9 @@ fn call(side: Side, way: Way) -> Option<Call> {
         (Side::Engine, Way::Page) => {
             |u, lent| raw::page(&u.settings, u.address, &u.rows, lent).into()
         }
+        (Side::Engine, Way::Compare) => {
+            |u, _| raw::compare(&u.settings, u.address, &u.rows, &u.other).into()
+        }
         (Side::H266, Way::Read) => {
             |u, lent| h266::read_unit(&u.settings, u.address, &u.flags, lent)
         }
@@ -99,13 +107,16 @@ fn call(side: Side, way: Way) -> Option<Call> {
             |u, lent| h266::write_flags(&u.settings, u.address, &u.rows, lent)
         }
         (Side::H266, Way::Page) => |u, lent| h266::page(&u.settings, u.address, &u.rows, lent),
+        (Side::H266, Way::Compare) => {
+            |u, _| h266::compare(&u.settings, u.address, &u.rows, &u.other)
+        }
         (Side::Tuned, Way::Read) => {
             |u, lent| tuned::read_unit(&u.settings, u.address, &u.flags, lent)
         }
         (Side::Tuned, Way::Write) => {
             |u, lent| tuned::write_flags(&u.settings, u.address, &u.rows, lent)
         }
-        (Side::Tuned, Way::Page) => return None,
+        (Side::Tuned, Way::Page | Way::Compare) => return None,
     })
 }
 
