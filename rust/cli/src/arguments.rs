@@ -20,7 +20,7 @@ pub enum Request {
 
 /// Why the command line is not understood.
 pub enum Misuse {
-    /// No subcommand, or no file for it.
+    /// No subcommand, or not as many files as it takes.
     Incomplete(Option<&'static Entry>),
     /// Something else, in one line.
     Wrong(String),
@@ -54,14 +54,17 @@ fn of_command(
         if let Some(request) = asked(&argument, Some(entry)) {
             return Ok(request);
         }
-        match entry.output {
-            Some(named) if argument == "-o" => take_output(&mut output, arguments.next(), named)?,
-            _ if argument == "--" => files.extend(arguments.by_ref()),
-            _ if is_option(&argument) => return Err(unknown_option(&argument)),
-            _ => files.push(argument),
+        if argument == "-o" && entry.drawing.is_some() {
+            take_output(&mut output, arguments.next())?;
+        } else if argument == "--" {
+            files.extend(arguments.by_ref());
+        } else if is_option(&argument) {
+            return Err(unknown_option(&argument));
+        } else {
+            files.push(argument);
         }
     }
-    if files.is_empty() {
+    if !entry.takes(files.len()) {
         return Err(Misuse::Incomplete(Some(entry)));
     }
     Ok(Request::Files { entry, files, output })
@@ -77,13 +80,10 @@ fn asked(argument: &OsString, entry: Option<&'static Entry>) -> Option<Request> 
 }
 
 /// The name after `-o`.
-fn take_output(
-    output: &mut Option<OsString>,
-    path: Option<OsString>,
-    named: &str,
-) -> Result<(), Misuse> {
+fn take_output(output: &mut Option<OsString>, path: Option<OsString>) -> Result<(), Misuse> {
     let Some(path) = path else {
-        return Err(Misuse::Wrong(format!("-o is to name {named}; {}", help::HINT)));
+        let message = format!("-o is to name {}; {}", help::DRAWING, help::HINT);
+        return Err(Misuse::Wrong(message));
     };
     match output.replace(path) {
         None => Ok(()),

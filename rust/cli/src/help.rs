@@ -7,6 +7,9 @@ use crate::commands::{Entry, COMMANDS};
 /// How to get help.
 pub const HINT: &str = "see colwythar --help";
 
+/// What `-o` names.
+pub const DRAWING: &str = "OUT.svg";
+
 /// The name and the number of this version.
 pub const VERSION: &str = concat!("colwythar ", env!("CARGO_PKG_VERSION"), "\n");
 
@@ -18,14 +21,15 @@ A FILE is text, and - is standard input. It gives its picture first, then units,
   unit 0: 1 0 0 0 0
 
   picture   CTU MinCb MinQt M MaxBt MaxTt width height
-  h265      CTU MinCb width height: in its place, a picture in H.265, which has no page
+  h265      CTU MinCb width height: in its place, a picture in H.265, which has no page and is not
+            compared
   unit      the unit's address and split flags; unit lines stand in the order of the addresses
   a row     unit, x, y, width, height, QT depth, MTT depth; all rows of a unit stand together
   #         begins a comment
 
 A unit is given by its flags or by its rows.
 
-  -o NAME         write to this file, not to standard output (where a command has it)
+  -o NAME         write the drawing to this file; compare draws where it is given
   -h, --help      print this text
   -V, --version   print the version
   --              end the options
@@ -62,6 +66,7 @@ fn chosen(entry: Option<&'static Entry>) -> &'static [Entry] {
 }
 
 fn synopsis(entry: &Entry) -> String {
-    let output = entry.output.map(|named| format!(" [-o {named}]")).unwrap_or_default();
-    format!("colwythar {} FILE...{output}", entry.name)
+    let files = entry.files.map_or(" FILE...".to_string(), |count| " FILE".repeat(count));
+    let output = entry.drawing.map(|_| format!(" [-o {DRAWING}]")).unwrap_or_default();
+    format!("colwythar {}{files}{output}", entry.name)
 }

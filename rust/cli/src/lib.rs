@@ -1,6 +1,6 @@
 //! The program `colwythar`: it reads text files of a picture's coding tree units, each given by its
-//! split flags or by its rows, and prints the rows, the flags or the pages, or draws the coding
-//! blocks.
+//! split flags or by its rows, and prints the rows, the flags or the pages, draws the coding blocks, or
+//! says which of two files has the finer tables.
 //!
 //! A subcommand is one file in `commands`, which implements [`Command`]; `COMMANDS` lists them.
 //! Everything else is shared: `text` says what the lines are, `picture` has the two codings, `reading`
@@ -11,8 +11,10 @@
 mod arguments;
 mod commands;
 mod complaint;
+mod edges;
 mod help;
 mod output;
+mod pairs;
 mod picture;
 mod printing;
 mod reading;

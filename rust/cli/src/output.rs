@@ -15,14 +15,14 @@ pub fn say(err: &mut dyn Write, message: &str) {
     let _ = err.write_all(format!("colwythar: {message}\n").as_bytes());
 }
 
-/// Says what was not accepted of a file, on standard error: the output of a drawing or a page has
-/// no place for it.
+/// Says what was not accepted of a file, on standard error: a drawing, a page and the answers to two
+/// files have no place for it.
 pub fn say_complaint(complaint: &Complaint, context: &mut Context<'_>) -> io::Result<()> {
     say(context.err, &format!("{}: {complaint}", context.name));
     Ok(())
 }
 
-/// Standard output, or the file that `-o` names; `-` is standard output there, too.
+/// Standard output, or the file of a drawing; `-` is standard output there, too.
 pub struct Output {
     pub name: String,
     pub writer: BufWriter<Box<dyn Write>>,

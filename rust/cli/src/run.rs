@@ -23,9 +23,11 @@ const READ_AT_ONCE: usize = 1 << 16;
 /// Runs the program with these arguments, its own name left out, and answers the exit status.
 pub fn run(arguments: impl Iterator<Item = OsString>) -> u8 {
     match arguments::parse(arguments) {
-        Ok(Request::Help(entry)) => print(&help::text(entry)),
-        Ok(Request::Version) => print(help::VERSION),
-        Ok(Request::Files { entry, files, output }) => handle(entry, &files, Output::new(output)),
+        Ok(Request::Help(entry)) => print(&help::text(entry)).unwrap_or(FAILED),
+        Ok(Request::Version) => print(help::VERSION).unwrap_or(FAILED),
+        Ok(Request::Files { entry, files, output }) => {
+            handle(entry, &files, output).unwrap_or(FAILED)
+        }
         Err(Misuse::Incomplete(entry)) => {
             let _ = io::stderr().write_all(help::usage(entry).as_bytes());
             FAILED
@@ -37,29 +39,36 @@ pub fn run(arguments: impl Iterator<Item = OsString>) -> u8 {
     }
 }
 
-fn print(text: &str) -> u8 {
-    let mut output = Output::new(None);
-    let written = output.writer.write_all(text.as_bytes()).and_then(|()| output.writer.flush());
-    written.map_or_else(|error| unwritten(&output.name, &error), |()| ACCEPTED)
+fn print(text: &str) -> Option<u8> {
+    written(Output::new(None), |out| out.write_all(text.as_bytes()).map(|()| ACCEPTED))
 }
 
-/// What is said of output that cannot be written: nothing where nobody reads it any more.
-fn unwritten(name: &str, error: &io::Error) -> u8 {
-    if error.kind() != ErrorKind::BrokenPipe {
-        say(&mut io::stderr(), &format!("{name}: {error}"));
-    }
-    FAILED
-}
-
-/// Gives all files to a subcommand.
-fn handle(entry: &Entry, files: &[OsString], mut output: Output) -> u8 {
-    let mut command = (entry.start)();
-    let status = handle_files(command.as_mut(), files, &mut output.writer).and_then(|status| {
-        command.finish(&mut output.writer)?;
+/// Has an output written, and answers the status; nothing where it cannot be written, which is said,
+/// unless nobody reads it any more.
+fn written(mut output: Output, write: impl FnOnce(&mut dyn Write) -> io::Result<u8>) -> Option<u8> {
+    let status = write(&mut output.writer).and_then(|status| {
         output.writer.flush()?;
         Ok(status)
     });
-    status.unwrap_or_else(|error| unwritten(&output.name, &error))
+    let said = status.inspect_err(|error| {
+        if error.kind() != ErrorKind::BrokenPipe {
+            say(&mut io::stderr(), &format!("{}: {error}", output.name));
+        }
+    });
+    said.ok()
+}
+
+/// Gives all files to a subcommand, and lets it draw; nothing where an output cannot be written.
+fn handle(entry: &Entry, files: &[OsString], drawing: Option<OsString>) -> Option<u8> {
+    let mut command = (entry.start)();
+    let status = written(Output::new(None), |out| {
+        let status = handle_files(command.as_mut(), files, out)?;
+        Ok(if command.finish(out)? { status } else { status.max(REFUSED) })
+    })?;
+    if !entry.draws(drawing.is_some()) {
+        return Some(status);
+    }
+    written(Output::new(drawing), |out| command.draw(out).map(|()| status))
 }
 
 /// The status is that of the worst file.

@@ -1,9 +1,13 @@
 //! The drawing: one rectangle a coding block, darker the deeper, and over them the grids of units
-//! and, dashed, of pipeline units.
+//! and, dashed, of pipeline units; and that of a comparison.
+
+mod comparison;
 
 use std::io::{self, Write};
 
 use colwythar::Row;
+
+pub use comparison::Comparison;
 
 /// The space between two pictures, in samples.
 const GAP: u32 = 8;
@@ -44,7 +48,11 @@ impl Picture {
 pub fn write(pictures: &[Picture], out: &mut dyn Write) -> io::Result<()> {
     let longest = pictures.iter().map(|picture| picture.width.max(picture.height)).max();
     let scale = display_scale(longest.unwrap_or(0));
-    write_head(pictures, scale, out)?;
+    let width = pictures.iter().map(|picture| u64::from(picture.width)).max().unwrap_or(0) + 2;
+    let heights: u64 = pictures.iter().map(|picture| u64::from(picture.height)).sum();
+    let height = heights + u64::from(GAP) * (pictures.len() as u64).saturating_sub(1) + 2;
+    let size = [width, height].map(|side| side * u64::from(scale));
+    write_head(size, scale, &block_style(scale), out)?;
     let mut y = 0;
     for picture in pictures {
         writeln!(out, "<g transform=\"translate(0 {y})\">")?;
@@ -60,47 +68,55 @@ fn display_scale(longest: u32) -> u32 {
     (640 / (longest + 2)).clamp(1, 6)
 }
 
-/// The size of the whole, with a margin of 1, and the style.
-fn write_head(pictures: &[Picture], scale: u32, out: &mut dyn Write) -> io::Result<()> {
-    let width = pictures.iter().map(|picture| u64::from(picture.width)).max().unwrap_or(0) + 2;
-    let heights: u64 = pictures.iter().map(|picture| u64::from(picture.height)).sum();
-    let height = heights + u64::from(GAP) * (pictures.len() as u64).saturating_sub(1) + 2;
-    let factor = u64::from(scale);
+/// The size of the whole on the screen, with a margin of one sample, and the style: that of what is
+/// drawn, and that of frame and units.
+fn write_head(size: [u64; 2], scale: u32, style: &str, out: &mut dyn Write) -> io::Result<()> {
+    let [width, height] = size;
+    let [across, down] = size.map(|side| seen(side as f64, scale));
     writeln!(
         out,
-        "<svg xmlns=\"http://www.w3.org/2000/svg\" width=\"{}\" height=\"{}\" \
-         viewBox=\"-1 -1 {width} {height}\">",
-        width * factor,
-        height * factor
+        "<svg xmlns=\"http://www.w3.org/2000/svg\" width=\"{width}\" height=\"{height}\" \
+         viewBox=\"-1 -1 {across} {down}\">"
     )?;
-    writeln!(out, "<style>{}</style>", style(scale))
+    writeln!(
+        out,
+        "<style>{style}.unit{{fill:none;stroke:#10202e;stroke-width:{}}}\
+         .picture{{fill:#fff;stroke:none}}</style>",
+        seen(1.6, scale)
+    )
 }
 
-/// The line widths are those seen on the screen, whatever the size of the picture.
-fn style(scale: u32) -> String {
-    let seen = |width: f64| width / f64::from(scale);
+/// A length on the screen in samples: line widths are the same, whatever the size of the picture.
+fn seen(length: f64, scale: u32) -> f64 {
+    length / f64::from(scale)
+}
+
+/// The style of blocks and pipeline units.
+fn block_style(scale: u32) -> String {
     format!(
         ".block{{stroke:#1b3a57;stroke-width:{}}}\
-         .pipeline{{fill:none;stroke:#c2571a;stroke-width:{};stroke-dasharray:{} {}}}\
-         .unit{{fill:none;stroke:#10202e;stroke-width:{}}}\
-         .picture{{fill:#fff;stroke:none}}",
-        seen(0.6),
-        seen(1.0),
-        seen(4.0),
-        seen(3.0),
-        seen(1.6)
+         .pipeline{{fill:none;stroke:#c2571a;stroke-width:{};stroke-dasharray:{} {}}}",
+        seen(0.6, scale),
+        seen(1.0, scale),
+        seen(4.0, scale),
+        seen(3.0, scale)
     )
 }
 
 fn write_picture(picture: &Picture, out: &mut dyn Write) -> io::Result<()> {
     let Picture { ctu, pipeline_side, width, height, ref blocks } = *picture;
-    writeln!(out, "<rect class=\"picture\" width=\"{width}\" height=\"{height}\"/>")?;
+    write_ground((width, height), out)?;
     for block in blocks {
         write_block(block, out)?;
     }
     write_grid("unit", ctu, (width, height), out)?;
     // over the units' lines: the dashes show where both grids have a line
     write_grid("pipeline", pipeline_side, (width, height), out)
+}
+
+/// The picture's area.
+fn write_ground((width, height): (u32, u32), out: &mut dyn Write) -> io::Result<()> {
+    writeln!(out, "<rect class=\"picture\" width=\"{width}\" height=\"{height}\"/>")
 }
 
 fn write_block(block: &Block, out: &mut dyn Write) -> io::Result<()> {

@@ -2,13 +2,14 @@
 
 use std::io::{self, Write};
 
-use super::{Command, Context, Entry, Unit};
+use super::{Command, Context, Drawing, Entry, Unit};
 use crate::{output, svg, Complaint, Picture};
 
 pub const ENTRY: Entry = Entry {
     name: "draw",
     about: "draw the coding blocks of each unit, as an SVG picture",
-    output: Some("OUT.svg"),
+    files: None,
+    drawing: Some(Drawing::Always),
     start: || Box::new(Draw::default()),
 };
 
@@ -43,7 +44,7 @@ impl Command for Draw {
         output::say_complaint(complaint, context)
     }
 
-    fn finish(&mut self, out: &mut dyn Write) -> io::Result<()> {
+    fn draw(&mut self, out: &mut dyn Write) -> io::Result<()> {
         if self.pictures.is_empty() {
             return Ok(());
         }

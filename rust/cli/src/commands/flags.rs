@@ -8,7 +8,8 @@ use crate::{printing, Complaint, Picture};
 pub const ENTRY: Entry = Entry {
     name: "flags",
     about: "print the flags of each unit, as unit lines",
-    output: None,
+    files: None,
+    drawing: None,
     start: || Box::new(Flags),
 };
 

@@ -1,5 +1,6 @@
 //! The subcommands: what they have in common, and the list of them.
 
+mod compare;
 mod draw;
 mod flags;
 mod page;
@@ -13,7 +14,8 @@ use crate::text::Reason;
 use crate::{Complaint, Picture};
 
 /// All subcommands, in the order of the help text.
-pub const COMMANDS: [Entry; 4] = [table::ENTRY, flags::ENTRY, page::ENTRY, draw::ENTRY];
+pub const COMMANDS: [Entry; 5] =
+    [table::ENTRY, flags::ENTRY, page::ENTRY, draw::ENTRY, compare::ENTRY];
 
 /// What the help text says of a subcommand, and how it begins.
 pub struct Entry {
@@ -21,10 +23,33 @@ pub struct Entry {
     pub name: &'static str,
     /// What it does, for the help text.
     pub about: &'static str,
-    /// What `-o` is to name, where the subcommand has this option.
-    pub output: Option<&'static str>,
+    /// How many files it takes; any number from 1 on where none is said.
+    pub files: Option<usize>,
+    /// When it draws, where it does; `-o` then names the file of the drawing.
+    pub drawing: Option<Drawing>,
     /// The subcommand before the first file.
     pub start: fn() -> Box<dyn Command>,
+}
+
+/// When a subcommand draws.
+#[derive(Clone, Copy, PartialEq, Eq)]
+pub enum Drawing {
+    /// Always; without `-o` the drawing goes to standard output.
+    Always,
+    /// Where `-o` is given, besides what is printed.
+    Asked,
+}
+
+impl Entry {
+    /// Does it take so many files?
+    pub fn takes(&self, files: usize) -> bool {
+        self.files.map_or(files > 0, |wanted| files == wanted)
+    }
+
+    /// Does it draw, with `-o` given or not?
+    pub fn draws(&self, asked: bool) -> bool {
+        self.drawing.is_some_and(|drawing| asked || drawing == Drawing::Always)
+    }
 }
 
 /// A subcommand: what it does with what stands in the files, in the order in which it stands there.
@@ -60,8 +85,13 @@ pub trait Command {
         Ok(())
     }
 
-    /// The end of the last file.
-    fn finish(&mut self, _out: &mut dyn Write) -> io::Result<()> {
+    /// The end of the last file. Answers whether all was accepted that is seen only now.
+    fn finish(&mut self, _out: &mut dyn Write) -> io::Result<bool> {
+        Ok(true)
+    }
+
+    /// Writes the drawing, after the end of the last file.
+    fn draw(&mut self, _out: &mut dyn Write) -> io::Result<()> {
         Ok(())
     }
 }
@@ -72,7 +102,7 @@ pub struct Context<'a> {
     pub name: &'a str,
     /// Are there more files than this one?
     pub several: bool,
-    /// Standard output, or the file that `-o` names.
+    /// Standard output.
     pub out: &'a mut dyn Write,
     /// Standard error.
     pub err: &'a mut dyn Write,

@@ -11,7 +11,8 @@ use crate::{output, Complaint, Picture};
 pub const ENTRY: Entry = Entry {
     name: "page",
     about: "print the page of each unit: a line of 33 bytes for each row",
-    output: None,
+    files: None,
+    drawing: None,
     start: || Box::new(Page { settings: None, lent: vec![0; MAX_PAGE_BYTES] }),
 };
 

@@ -8,7 +8,8 @@ use crate::{printing, Complaint, Picture};
 pub const ENTRY: Entry = Entry {
     name: "table",
     about: "print the rows of each unit, in columns",
-    output: None,
+    files: None,
+    drawing: None,
     start: || Box::new(Table::default()),
 };
 

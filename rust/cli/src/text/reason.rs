@@ -33,6 +33,10 @@ pub enum Reason {
     H265Many,
     /// A picture in H.265, of which no page is printed.
     NoPage,
+    /// A picture in H.265, whose tables are not compared.
+    NoComparison,
+    /// Another picture than that of the file with which this one is compared.
+    OtherPicture,
     /// A number of a picture that needs more than 32 bits.
     PictureLarge,
     /// No number after `unit`.
@@ -129,6 +133,8 @@ impl fmt::Display for Reason {
             Self::First => "a picture line is expected before this one",
             Self::Second => "a second picture line; a file has one",
             Self::NoPage => "there is no page of a picture in H.265",
+            Self::NoComparison => "tables of a picture in H.265 are not compared",
+            Self::OtherPicture => "another picture than that of the first file",
             Self::Address => "a number is expected after \"unit\"",
             Self::AddressLarge => "a unit's address is at most 4294967295",
             Self::NoColon => "a colon is expected after the unit's address",

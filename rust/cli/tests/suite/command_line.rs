@@ -6,6 +6,7 @@ const USAGE: &str = "usage: colwythar table FILE...
        colwythar flags FILE...
        colwythar page FILE...
        colwythar draw FILE... [-o OUT.svg]
+       colwythar compare FILE FILE [-o OUT.svg]
 see colwythar --help
 ";
 
@@ -22,6 +23,14 @@ fn without_a_command_or_a_file() {
 }
 
 #[test]
+fn compare_takes_two_files() {
+    let usage = "usage: colwythar compare FILE FILE [-o OUT.svg]\nsee colwythar --help\n";
+    for files in [&["-o", "out.svg"][..], &["-"], &["-", "-", "-"], &["--", "a", "b", "c"]] {
+        assert_eq!(run(&[&["compare"], files].concat()), Ran::failed(2, usage), "{files:?}");
+    }
+}
+
+#[test]
 fn unknown_words() {
     let wrong = |arguments: &[&str], message: &str| {
         let line = format!("colwythar: {message}; see colwythar --help\n");
@@ -34,6 +43,7 @@ fn unknown_words() {
     wrong(&["table", "-x", "-"], "there is no option \"-x\" here");
     wrong(&["table", "-", "-o", "x"], "there is no option \"-o\" here");
     wrong(&["draw", "-", "-o"], "-o is to name OUT.svg");
+    wrong(&["compare", "-", "-", "-o"], "-o is to name OUT.svg");
     wrong(&["draw", "-o", "a", "-o", "b", "-"], "-o is given twice");
 }
 
@@ -42,9 +52,11 @@ fn help_and_version() {
     for arguments in [&["--help"][..], &["-h"], &["draw", "--help"], &["draw", "-h", "-x"]] {
         let ran = run(arguments);
         assert_eq!((ran.status, ran.err.as_str()), (0, ""));
-        assert!(ran.out.contains("colwythar draw FILE... [-o OUT.svg]   draw the coding blocks"));
+        let draw = ran.out.lines().find(|line| line.starts_with("  colwythar draw FILE... [-o "));
+        assert!(draw.is_some_and(|line| line.contains("]   ") && line.contains("   draw the ")));
         assert!(ran.out.contains("  unit 0: 1 0 0 0 0\n"));
         assert_eq!(ran.out.contains("colwythar table FILE..."), arguments.len() == 1);
+        assert_eq!(ran.out.contains("colwythar compare FILE FILE [-o"), arguments.len() == 1);
     }
     for arguments in [&["--version"][..], &["-V"], &["table", "-V"]] {
         assert_eq!(run(arguments), Ran::accepted("colwythar 0.1.0\n"));

@@ -40,6 +40,20 @@ fn there_is_no_page() {
 }
 
 #[test]
+fn tables_are_not_compared() {
+    let complaint = |line| {
+        let reason = "tables of a picture in H.265 are not compared";
+        format!("colwythar: standard input: line {line}: {reason}\n")
+    };
+    let p2 = sample("p2.txt");
+    let p2 = p2.to_str().expect("a name");
+    let first = run_with(&["compare", "-", p2], TWO.as_bytes());
+    assert_eq!(first, Ran::failed(1, &complaint(1)));
+    let second = run_with(&["compare", p2, "-"], b"# a comment\nh265 1 2 3 4\n");
+    assert_eq!(second, Ran::failed(1, &complaint(2)));
+}
+
+#[test]
 fn both_codings_among_several_files() {
     let (p1, h265) = (sample("p1.txt"), sample("h265.txt"));
     let (p1, h265) = (p1.to_str().expect("a name"), h265.to_str().expect("a name"));

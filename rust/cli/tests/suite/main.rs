@@ -1,6 +1,7 @@
 //! Tests of the program, run as a process; what is expected was written down by hand.
 
 mod command_line;
+mod comparing;
 mod drawing;
 mod files;
 mod h265;

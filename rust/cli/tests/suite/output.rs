@@ -2,27 +2,37 @@
 
 use std::fs::{self, File};
 use std::io::Read;
-use std::path::Path;
+use std::path::{Path, PathBuf};
 use std::process::{Output, Stdio};
 
 use crate::program::{command, fresh_path, run, run_with, sample, Ran, P1};
 
 const FULL: &str = "No space left on device";
 
+/// Runs a subcommand with these files, and closes its standard output after a few bytes.
+fn assert_closed_early(name: &str, files: &[PathBuf]) {
+    let mut command = command();
+    command.arg(name).args(files).stdout(Stdio::piped()).stderr(Stdio::piped());
+    let mut child = command.spawn().expect("it starts");
+    let mut pipe = child.stdout.take().expect("a pipe");
+    pipe.read_exact(&mut [0; 10]).expect("some bytes");
+    drop(pipe);
+    let ended = child.wait_with_output().expect("it ends");
+    assert_eq!(ended.stderr, b"", "{name}");
+    assert_eq!(ended.status.code(), Some(2), "{name}");
+}
+
 #[test]
 fn a_pipe_that_is_closed_early() {
     for name in ["table", "flags", "page", "draw"] {
-        let mut command = command();
-        command.arg(name).args(vec![sample("camera.txt"); 100]);
-        let mut child =
-            command.stdout(Stdio::piped()).stderr(Stdio::piped()).spawn().expect("it starts");
-        let mut pipe = child.stdout.take().expect("a pipe");
-        pipe.read_exact(&mut [0; 10]).expect("some bytes");
-        drop(pipe);
-        let ended = child.wait_with_output().expect("it ends");
-        assert_eq!(ended.stderr, b"", "{name}");
-        assert_eq!(ended.status.code(), Some(2), "{name}");
+        assert_closed_early(name, &vec![sample("camera.txt"); 100]);
     }
+    // More units than a pipe takes lines.
+    let path = fresh_path("many-units.txt");
+    let row = |unit| format!("{unit} {} {} 32 32 0 0\n", unit % 100 * 32, unit / 100 * 32);
+    let rows: String = (0..10_000).map(row).collect();
+    fs::write(&path, format!("picture 32 4 8 3 32 32 3200 3200\n{rows}")).expect("a file");
+    assert_closed_early("compare", &[path.clone(), path]);
 }
 
 #[test]
@@ -30,9 +40,17 @@ fn a_device_that_is_full() {
     if !Path::new("/dev/full").exists() {
         return;
     }
-    for arguments in
-        [&["table", "-"][..], &["flags", "-"], &["page", "-"], &["draw", "-"], &["--help"]]
-    {
+    let p1 = sample("p1.txt");
+    let p1 = p1.to_str().expect("a name");
+    let compare = ["compare", "-", p1];
+    for arguments in [
+        &["table", "-"][..],
+        &["flags", "-"],
+        &["page", "-"],
+        &["draw", "-"],
+        &compare,
+        &["--help"],
+    ] {
         let full = File::options().write(true).open("/dev/full").expect("the device");
         let path = fresh_path(&format!("full-{}.txt", arguments[0]));
         fs::write(&path, P1).expect("a file");
@@ -43,9 +61,11 @@ fn a_device_that_is_full() {
         assert!(message.starts_with(&format!("colwythar: standard output: {FULL}")), "{message}");
         assert_eq!((status.code(), message.lines().count()), (Some(2), 1));
     }
-    let ran = run_with(&["draw", "-", "-o", "/dev/full"], P1.as_bytes());
-    assert!(ran.err.starts_with(&format!("colwythar: /dev/full: {FULL}")), "{}", ran.err);
-    assert_eq!(ran.status, 2);
+    for arguments in [&["draw", "-"][..], &compare] {
+        let ran = run_with(&[arguments, &["-o", "/dev/full"]].concat(), P1.as_bytes());
+        assert!(ran.err.starts_with(&format!("colwythar: /dev/full: {FULL}")), "{}", ran.err);
+        assert_eq!(ran.status, 2);
+    }
 }
 
 #[test]

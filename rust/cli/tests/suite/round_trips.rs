@@ -26,7 +26,7 @@ fn rows_to_flags_to_rows() {
         check_way_back(&table, &flags.out, path.ends_with("p5-rows.txt"));
         seen += 1;
     }
-    assert_eq!(seen, 21);
+    assert_eq!(seen, 23);
 }
 
 /// The flags give the same rows. Where the file has unit 1 only, the session awaits unit 0 first.

@@ -16,7 +16,7 @@ fn data_prints_what_is_stored() {
 
 #[test]
 fn samples_print_what_is_stored() {
-    assert_eq!(check_folder(&sample("")), (21, 24));
+    assert_eq!(check_folder(&sample("")), (23, 27));
 }
 
 /// Checks each text file of a folder. Answers how many there are, and how many runs were compared.
@@ -27,7 +27,8 @@ fn check_folder(folder: &Path) -> (usize, usize) {
         .collect();
     let texts = paths.iter().filter(|path| path.extension() == Some(OsStr::new("txt")));
     let runs: Vec<usize> = texts.map(|path| check_file(path)).collect();
-    let compared = runs.iter().sum();
+    let pairs = paths.iter().filter(|path| path.extension() == Some(OsStr::new("compare")));
+    let compared = runs.iter().sum::<usize>() + pairs.map(|path| check_pair(path)).sum::<usize>();
     assert!(runs.iter().all(|&runs| runs > 0), "a file without expected output");
     assert_eq!(paths.len(), runs.len() + compared, "a file that belongs to no other");
     (runs.len(), compared)
@@ -50,6 +51,18 @@ fn check_file(path: &Path) -> usize {
         }
     }
     compared
+}
+
+/// The answers to two files stand beside them, under what their names have in common. One run is
+/// compared.
+fn check_pair(stored: &Path) -> usize {
+    let stem = stored.file_stem().expect("a name").to_str().expect("text");
+    let [first, second] =
+        ["first", "second"].map(|place| stored.with_file_name(format!("{stem}-{place}.txt")));
+    let out = fs::read_to_string(stored).expect("stored output");
+    let ran = run(&[OsStr::new("compare"), first.as_os_str(), second.as_os_str()]);
+    assert_eq!(ran, Ran::accepted(&out), "{stored:?}");
+    1
 }
 
 /// 1 where the stored output has a complaint.
