@@ -34,8 +34,9 @@ A unit is given by its flags or by its rows.
   -V, --version   print the version
   --              end the options
 
-The exit status is 0 where everything was accepted, 1 where something was refused or malformed, and
-2 for wrong usage and for what cannot be read or written.
+The exit status is 0 where everything was accepted, 1 where something was refused or malformed, or
+accepted in one of two compared files only, and 2 for wrong usage and for what cannot be read or
+written.
 ";
 
 /// The help text, of one subcommand or of all.

@@ -12,7 +12,7 @@ use crate::reading::{read, Trouble};
 
 /// Everything was accepted.
 const ACCEPTED: u8 = 0;
-/// Something was refused or malformed.
+/// Something was refused or malformed, or is missing in a file that is compared.
 const REFUSED: u8 = 1;
 /// Wrong usage, or something that cannot be read or written.
 const FAILED: u8 = 2;

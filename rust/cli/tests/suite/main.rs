@@ -2,6 +2,7 @@
 
 mod command_line;
 mod comparing;
+mod comparing_drawn;
 mod drawing;
 mod files;
 mod h265;
