@@ -57,7 +57,7 @@ impl Refusal {
     #[inline]
     pub(crate) fn check(answer: [u64; 2]) -> Result<usize, Self> {
         match answer {
-            // A count never exceeds the lent buffer, so it fits.
+            // A count never exceeds the lent buffer, nor a picture's units or a comparison's 3, so it fits.
             [0, count] => Ok(count as usize),
             [number, place] => Err(Self { number, place }),
         }
