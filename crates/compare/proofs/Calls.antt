@@ -1,60 +1,88 @@
--- The call: both tables are tested, then compared.
+-- The call: the unit is looked for, both tables are tested, then compared.
 use Prim.Native.Nat.{ℕ}
-use mathlib.Core.Path.{_≡_, refl, sym, ap, _∙_}
+use mathlib.Core.Path.{_≡_, sym, ap, _∙_}
 use mathlib.Core.List.{List}
 use Rattle.settings.specs.declared.Settings.{Settings}
+use Rattle.settings.specs.declared.Square.{Square}
+use Rattle.settings.specs.declared.Located.{Located}
+use Rattle.settings.specs.declared.Located.the-variants as unit
+use Rattle.settings.proofs.Passed.{passed}
+use Rattle.tree.specs.declared.Limits.{Limits}
+use Rattle.tree.specs.declared.Node.{Node}
+use Rattle.tree.specs.Kind.{Kind, luma}
 use Rattle.tree.specs.Rows.{Row, rowsIn}
 use Rattle.tree.specs.Run.{goes, stops}
+use Rattle.unit.specs.declared.Answer.{Answer}
 use Rattle.unit.specs.declared.Answer.the-variants.{Accepted, Refused}
 use Rattle.unit.specs.Answers.{answerOf}
-use Rattle.unit.specs.Luma.{unitsOf}
-use Rattle.unit.specs.Writer.{testUnit}
+use Rattle.unit.specs.Units.{Units, refusalIn, rootIn, locatedIn, rootOf}
+use Rattle.unit.specs.Luma.{limitsOf, unitsOf}
+use Rattle.unit.specs.Writer.{testRows}
 use Rattle.unit.proofs.Accepts.{answer-stops, answer-goes}
-use Rattle.unit.proofs.Luma.{luma-sound}
-use Rattle.unit.proofs.Sound.{root-of}
-use Rattle.unit.proofs.Tested.{Passed, passes}
-use Rattle.compare.specs.declared.finer.Finer.{Finer}
+use Rattle.unit.proofs.Located.{found}
+use Rattle.unit.proofs.Luma.{luma-sound, usable}
+use Rattle.unit.proofs.Sound.{Sound, root-of}
+use Rattle.unit.proofs.Tested.{unit-tested, passes}
+use Rattle.walks.specs.Rooted.{Rooted}
+use Rattle.walks.proofs.UnitRoots.{usable-checked, found-rooted}
 use Rattle.compare.specs.Finer.{comparison, finerNumber}
-use Rattle.compare.specs.Compare.{afterBoth, compareUnit}
-use Rattle.compare.specs.Tests.{Passes, Comparable}
+use Rattle.compare.specs.Compare.{afterBoth, compareRows, compareLocated, compareUnit}
+use Rattle.compare.specs.Tests.{Passes, Tabled, Comparable}
 use Rattle.compare.proofs.Trees.{trees-comparable}
 
-module _ (s : Settings) (a : ℕ) (first second : List ℕ) where
-  -- ---- by what the two tests end with
+-- ---- two tables of a root, by what their tests end with and by what they answer
 
-  pub first-stopped : {number place : ℕ} → testUnit s a first .end ≡ stops number place → compareUnit s a first second ≡ Refused number place
-  unfolding compareUnit afterBoth
+module _ (k : Kind) (root : Node) (first second : List ℕ) where
+  pub first-stopped : {number place : ℕ} → testRows k root first .end ≡ stops number place → compareRows k root first second ≡ Refused number place
+  unfolding compareRows afterBoth
   first-stopped e = rw e
 
-  pub second-stopped : {rest : List Row} {number place : ℕ} → testUnit s a first .end ≡ goes rest → testUnit s a second .end ≡ stops number place
-      → compareUnit s a first second ≡ Refused number place
-  unfolding compareUnit afterBoth
+  pub second-stopped : {rest : List Row} {number place : ℕ} → testRows k root first .end ≡ goes rest → testRows k root second .end ≡ stops number place
+      → compareRows k root first second ≡ Refused number place
+  unfolding compareRows afterBoth
   second-stopped e f = rw (e, f)
 
-  pub both-go : {rest rest₁ : List Row} → testUnit s a first .end ≡ goes rest → testUnit s a second .end ≡ goes rest₁
-      → compareUnit s a first second ≡ Accepted (finerNumber (comparison (rowsIn first) (rowsIn second)))
-  unfolding compareUnit afterBoth
+  pub both-go : {rest rest₁ : List Row} → testRows k root first .end ≡ goes rest → testRows k root second .end ≡ goes rest₁
+      → compareRows k root first second ≡ Accepted (finerNumber (comparison (rowsIn first) (rowsIn second)))
+  unfolding compareRows afterBoth
   both-go e f = rw (e, f)
 
-  -- ---- by what they answer
+  pub first-refused : {number place : ℕ} → answerOf (testRows k root first) ≡ Refused number place → compareRows k root first second ≡ Refused number place
+  first-refused e = first-stopped (answer-stops (testRows k root first) e)
 
-  pub first-refused : {number place : ℕ} → answerOf (testUnit s a first) ≡ Refused number place → compareUnit s a first second ≡ Refused number place
-  first-refused e = first-stopped (answer-stops (testUnit s a first) e)
+  module _ (p : Passes k root first) where
+    pub second-refused : {number place : ℕ} → answerOf (testRows k root second) ≡ Refused number place → compareRows k root first second ≡ Refused number place
+    second-refused e = second-stopped (answer-goes (testRows k root first) (p .answer) .2) (answer-stops (testRows k root second) e)
 
-  module _ (p : Passes s a first) where
-    pub second-refused : {number place : ℕ} → answerOf (testUnit s a second) ≡ Refused number place → compareUnit s a first second ≡ Refused number place
-    second-refused e = second-stopped (answer-goes (testUnit s a first) (p .answer) .2) (answer-stops (testUnit s a second) e)
-
-    module _ {count : ℕ} (e : answerOf (testUnit s a second) ≡ Accepted count) where
-      pub both-accepted : compareUnit s a first second ≡ Accepted (finerNumber (comparison (rowsIn first) (rowsIn second)))
-      both-accepted = both-go (answer-goes (testUnit s a first) (p .answer) .2) (answer-goes (testUnit s a second) e .2)
-
-      -- what the comparison asks
-      pub both-comparable : Comparable (rowsIn first) (rowsIn second)
-      both-comparable =
-          let t = passes (luma-sound s) a first (p .answer) in
-          let u = passes (luma-sound s) a second e in
-          rw (t .rows, u .rows) at (trees-comparable (root-of (luma-sound s) a (t .there)) (t .tree) (u .tree))
+    pub both-accepted : Passes k root second → compareRows k root first second ≡ Accepted (finerNumber (comparison (rowsIn first) (rowsIn second)))
+    both-accepted q = both-go (answer-goes (testRows k root first) (p .answer) .2) (answer-goes (testRows k root second) (q .answer) .2)
 
 pub turned : {rows others : List Row} → Comparable rows others → Comparable others rows
 turned c = record { one = c .other; other = c .one; same = λ px py. sym (c .same px py) }
+
+-- ---- a unit that was looked for
+
+module _ {us : Units} (law : Sound us) (a : ℕ) (h : refusalIn us a ≡ 0) where
+  pub unit-comparable : (first second : List ℕ) → Passes (us .kind) (rootIn us a) first → Passes (us .kind) (rootIn us a) second → Comparable (rowsIn first) (rowsIn second)
+  unit-comparable first second p q =
+      let t = passes law a first (ap answerOf (unit-tested law a h first) ∙ p .answer) in
+      let u = passes law a second (ap answerOf (unit-tested law a h second) ∙ q .answer) in
+      rw (t .rows, u .rows) at (trees-comparable (root-of law a h) (t .tree) (u .tree))
+
+module _ (s : Settings) (a : ℕ) {at : Located} (e : at ≡ locatedIn (unitsOf s) a) where
+  pub none-compared : {number : ℕ} → at ≡ unit.Refused number → (first second : List ℕ) → Refused number 0 ≡ compareUnit s a first second
+  unfolding compareLocated
+  none-compared h first second = rw (← e, h)
+
+  module _ {q : Square} (h : at ≡ unit.At q) {l : Limits} {root : Node} (i : l ≡ limitsOf s) (j : root ≡ rootOf q) where
+    pub found-tabled : Tabled (luma l) root
+    found-tabled =
+        let f = found (refusalIn (unitsOf s) a) (unitsOf s .square a) (rw e at h) in
+        record {
+          rooted = found-rooted (usable-checked (λ z. usable (passed s z))) a e h i j;
+          comparable = rw (i, j, f .1) (unit-comparable (luma-sound s) a (f .0));
+        }
+
+    pub there-compared : (first second : List ℕ) {said : Answer} → said ≡ compareRows (luma l) root first second → said ≡ compareUnit s a first second
+    unfolding compareLocated
+    there-compared first second t = rw (← e, h) (rw (i, j) at t)

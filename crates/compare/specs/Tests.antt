@@ -4,16 +4,17 @@ use mathlib.Core.Path.{_≡_}
 use mathlib.Core.Bool.{Bool, _&&_}
 use mathlib.Core.List.{List}
 use lib.ListN.{getD}
-use Rattle.settings.specs.declared.Settings.{Settings}
 use Rattle.tree.specs.declared.Node.{Node}
-use Rattle.tree.specs.Rows.{Row}
+use Rattle.tree.specs.Kind.{Kind}
+use Rattle.tree.specs.Rows.{Row, rowsIn}
 use Rattle.blocks.specs.RowNumbers.{rowWord}
 use Rattle.laws.specs.Every.{Every}
 use Rattle.laws.specs.Geometry.{copies}
 use Rattle.nodes.specs.RowNodes.{nodeIn}
 use Rattle.unit.specs.declared.Answer.the-variants.{Accepted}
 use Rattle.unit.specs.Answers.{answerOf}
-use Rattle.unit.specs.Writer.{testUnit}
+use Rattle.unit.specs.Writer.{testRows}
+use Rattle.walks.specs.Rooted.{Rooted}
 use Rattle.cells.specs.Map.{cellAt}
 use Rattle.cells.specs.Held.{Celled}
 use Rattle.compare.specs.Finer.{everyRow, spanIn}
@@ -44,6 +45,11 @@ pub record Comparable (rows others : List Row) : Type 0 where
   pub same : (px py : ℕ) → copies px py rows ≡ copies px py others
 
 -- a table passes the test of the way back
-pub record Passes (s : Settings) (address : ℕ) (bytes : List ℕ) : Type 0 where
+pub record Passes (k : Kind) (root : Node) (bytes : List ℕ) : Type 0 where
   pub flags : ℕ
-  pub answer : answerOf (testUnit s address bytes) ≡ Accepted flags
+  pub answer : answerOf (testRows k root bytes) ≡ Accepted flags
+
+-- a root whose tables can be tested and compared
+pub record Tabled (k : Kind) (root : Node) : Type 0 where
+  pub rooted : Rooted k root
+  pub comparable : (first second : List ℕ) → Passes k root first → Passes k root second → Comparable (rowsIn first) (rowsIn second)

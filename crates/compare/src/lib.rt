@@ -4,18 +4,22 @@ mod finer;
 mod tables;
 
 pub use finer::Finer;
+use settings::Located;
 use settings::Settings;
+use tree::Limits;
+use tree::Node;
 use unit::Answer;
 ghost use mathlib.Core.Path.{_≡_};
-ghost use Rattle.compare.specs.Compare.{compareUnit};
-ghost use Rattle.compare.specs.Tests.{Passes};
+ghost use Rattle.tree.specs.Kind.{luma};
+ghost use Rattle.compare.specs.Compare.{compareRows, compareUnit};
+ghost use Rattle.compare.specs.Tests.{Tabled, Passes};
 
-// The comparison where the first table is that of a tree.
-fn after_first(s: Settings, address: usize, first: &[u8], second: &[u8]) -> Answer
-    requires { ⌜ Passes s address (now first) ⌝ }
-    ensures { λ r. ⌜ r ≡ compareUnit s address (now (first .entry)) (now (second .entry)) ⌝ }
+// The comparison with a second table, where the first is that of a tree.
+fn after_first(l: Limits, root: Node, first: &[u8], second: &[u8]) -> Answer
+    requires { ⌜ Tabled (luma l) root × Passes (luma l) root (now first) ⌝ }
+    ensures { λ r. ⌜ r ≡ compareRows (luma l) root (now (first .entry)) (now (second .entry)) ⌝ }
 {
-    match writer::test_unit(s, address, second) {
+    match writer::test_table(l, root, second) {
         Answer::Refused(number, place) => Answer::Refused(number, place),
         Answer::Accepted(_flags) => {
             let finer = tables::finer_or_equal(first, second);
@@ -25,12 +29,23 @@ fn after_first(s: Settings, address: usize, first: &[u8], second: &[u8]) -> Answ
     }
 }
 
+// The comparison of two tables, by the root of their unit.
+fn compare_rows(l: Limits, root: Node, first: &[u8], second: &[u8]) -> Answer
+    requires { ⌜ Tabled (luma l) root ⌝ }
+    ensures { λ r. ⌜ r ≡ compareRows (luma l) root (now (first .entry)) (now (second .entry)) ⌝ }
+{
+    match writer::test_table(l, root, first) {
+        Answer::Refused(number, place) => Answer::Refused(number, place),
+        Answer::Accepted(_flags) => after_first(l, root, first, second),
+    }
+}
+
 // Compares two tables of the unit at an address: answers the number of the comparison, 0 to 3, or a refusal.
 pub fn compare_unit(s: Settings, address: usize, first: &[u8], second: &[u8]) -> Answer
     ensures { λ r. ⌜ r ≡ compareUnit s address (now (first .entry)) (now (second .entry)) ⌝ }
 {
-    match writer::test_unit(s, address, first) {
-        Answer::Refused(number, place) => Answer::Refused(number, place),
-        Answer::Accepted(_flags) => after_first(s, address, first, second),
+    match settings::unit_at(s, address) {
+        Located::Refused(number) => Answer::Refused(number, 0),
+        Located::At(q) => compare_rows(unit::limits(s), unit::root(q), first, second),
     }
 }

@@ -6,6 +6,7 @@ mod test;
 use nodes::Child;
 use settings::Located;
 use settings::Settings;
+pub use test::test_table;
 pub use test::test_unit;
 use tree::Limits;
 use tree::Node;

@@ -114,22 +114,30 @@ pub(crate) fn stuck_end(l: Limits, root: Node, rows: &[u8]) -> Answer
     Answer::Refused(16, leading)
 }
 
-// The test of a table, refusals 15, 27, 28 and 16; a root that is a leaf needs no walk.
-fn test_rows(l: Limits, root: Node, rows: &[u8]) -> Answer
+// The test of a table by a walk, refusals 15, 27, 28 and 16.
+pub fn test_table(l: Limits, root: Node, rows: &[u8]) -> Answer
     requires { ⌜ Rooted (luma l) root ⌝ }
     ensures { λ r. ⌜ r ≡ answerOf (testRows (luma l) root (now (rows .entry))) ⌝ }
 {
     if rows.len() % 8 != 0 {
         return Answer::Refused(15, rows.len() / 8);
     }
-    if is_leaf(l, root, rows) {
-        return Answer::Accepted(leaf_count(leaf_splits(l, root)));
-    }
     let mut scratch = [0u8; 2048];
     let Child::Walked(end) = nodes::child_answer(walk_all(l, root, rows, &mut scratch)) else {
         return stuck_end(l, root, rows);
     };
     walk_end(end, rows)
+}
+
+// The test of a table; a root that is a leaf needs no walk.
+fn test_rows(l: Limits, root: Node, rows: &[u8]) -> Answer
+    requires { ⌜ Rooted (luma l) root ⌝ }
+    ensures { λ r. ⌜ r ≡ answerOf (testRows (luma l) root (now (rows .entry))) ⌝ }
+{
+    if is_leaf(l, root, rows) {
+        return Answer::Accepted(leaf_count(leaf_splits(l, root)));
+    }
+    test_table(l, root, rows)
 }
 
 // Tests the rows of the unit at an address: answers the number of the flags that give them, or a refusal of the way back
