@@ -74,6 +74,14 @@ pub extern "C" fn colwythar_page(
     put_answer(a, answer);
 }
 
+// The answer of a comparison.
+fn tables_compared(settings: &[u32; 8], address: u64, first: &[u8], second: &[u8]) -> Answer
+    ensures { λ r. ⌜ r ≡ compareUnit (settingsIn (now (settings .entry))) address (now (first .entry)) (now (second .entry)) ⌝ }
+{
+    let s = settings::from_words(settings);
+    compare::compare_unit(s, address as usize, first, second)
+}
+
 // Compares two tables of a unit: refusals 1 to 10, then 15, 27, 28 and 16 of the first, then of the second, or 0 to 3: equal
 // blocks, the first finer, the second finer, neither.
 #[no_mangle]
@@ -86,8 +94,7 @@ pub extern "C" fn colwythar_compare(
 )
     ensures { λ _. ⌜ now (answer .exit) ≡ answerWords (compareUnit (settingsIn (now (settings .entry))) address (now (first .entry)) (now (second .entry))) ⌝ }
 {
-    let s = settings::from_words(settings);
-    let a = compare::compare_unit(s, address as usize, first, second);
+    let a = tables_compared(settings, address, first, second);
     put_answer(a, answer);
 }
 

@@ -114,14 +114,11 @@ pub(crate) fn stuck_end(l: Limits, root: Node, rows: &[u8]) -> Answer
     Answer::Refused(16, leading)
 }
 
-// The test of a table by a walk, refusals 15, 27, 28 and 16.
-pub fn test_table(l: Limits, root: Node, rows: &[u8]) -> Answer
-    requires { ⌜ Rooted (luma l) root ⌝ }
+// The test of whole rows by a walk, refusals 27, 28 and 16.
+fn test_walk(l: Limits, root: Node, rows: &[u8]) -> Answer
+    requires { ⌜ Rooted (luma l) root × (length (now rows) % 8 ≡ 0) ⌝ }
     ensures { λ r. ⌜ r ≡ answerOf (testRows (luma l) root (now (rows .entry))) ⌝ }
 {
-    if rows.len() % 8 != 0 {
-        return Answer::Refused(15, rows.len() / 8);
-    }
     let mut scratch = [0u8; 2048];
     let Child::Walked(end) = nodes::child_answer(walk_all(l, root, rows, &mut scratch)) else {
         return stuck_end(l, root, rows);
@@ -129,15 +126,30 @@ pub fn test_table(l: Limits, root: Node, rows: &[u8]) -> Answer
     walk_end(end, rows)
 }
 
-// The test of a table; a root that is a leaf needs no walk.
+// The test of a table, refusals 15, 27, 28 and 16; a root that is a leaf needs no walk.
 fn test_rows(l: Limits, root: Node, rows: &[u8]) -> Answer
     requires { ⌜ Rooted (luma l) root ⌝ }
     ensures { λ r. ⌜ r ≡ answerOf (testRows (luma l) root (now (rows .entry))) ⌝ }
 {
+    if rows.len() % 8 != 0 {
+        return Answer::Refused(15, rows.len() / 8);
+    }
     if is_leaf(l, root, rows) {
         return Answer::Accepted(leaf_count(leaf_splits(l, root)));
     }
-    test_table(l, root, rows)
+    test_walk(l, root, rows)
+}
+
+// The same always by a walk, for calls that do not need the number of the flags: with the question for a leaf, the compiler
+// would take that out of the page and the way back.
+pub fn test_table(l: Limits, root: Node, rows: &[u8]) -> Answer
+    requires { ⌜ Rooted (luma l) root ⌝ }
+    ensures { λ r. ⌜ r ≡ answerOf (testRows (luma l) root (now (rows .entry))) ⌝ }
+{
+    if rows.len() % 8 != 0 {
+        return Answer::Refused(15, rows.len() / 8);
+    }
+    test_walk(l, root, rows)
 }
 
 // Tests the rows of the unit at an address: answers the number of the flags that give them, or a refusal of the way back
