@@ -1,7 +1,10 @@
 -- The call: the unit is looked for, both tables are tested, then compared.
-use Prim.Native.Nat.{ℕ}
-use mathlib.Core.Path.{_≡_, sym, ap, _∙_}
+use Prim.Native.Nat.{ℕ, _/_, _%_}
+use mathlib.Core.Path.{_≡_, sym, ap, ap₂, _∙_}
+use mathlib.Core.Bool.{cond}
 use mathlib.Core.List.{List}
+use lib.Dec.{eqb}
+use lib.ListN.{length}
 use Rattle.settings.specs.declared.Settings.{Settings}
 use Rattle.settings.specs.declared.Square.{Square}
 use Rattle.settings.specs.declared.Located.{Located}
@@ -11,13 +14,13 @@ use Rattle.tree.specs.declared.Limits.{Limits}
 use Rattle.tree.specs.declared.Node.{Node}
 use Rattle.tree.specs.Kind.{Kind, luma}
 use Rattle.tree.specs.Rows.{Row, rowsIn}
-use Rattle.tree.specs.Run.{goes, stops}
+use Rattle.tree.specs.Run.{goes, stops, refuse}
 use Rattle.unit.specs.declared.Answer.{Answer}
 use Rattle.unit.specs.declared.Answer.the-variants.{Accepted, Refused}
 use Rattle.unit.specs.Answers.{answerOf}
 use Rattle.unit.specs.Units.{Units, refusalIn, rootIn, locatedIn, rootOf}
 use Rattle.unit.specs.Luma.{limitsOf, unitsOf}
-use Rattle.unit.specs.Writer.{testRows}
+use Rattle.unit.specs.Writer.{flagsFrom, testRows}
 use Rattle.unit.proofs.Accepts.{answer-stops, answer-goes}
 use Rattle.unit.proofs.Located.{found}
 use Rattle.unit.proofs.Luma.{luma-sound, usable}
@@ -25,9 +28,11 @@ use Rattle.unit.proofs.Sound.{Sound, root-of}
 use Rattle.unit.proofs.Tested.{unit-tested, passes}
 use Rattle.walks.specs.Rooted.{Rooted}
 use Rattle.walks.proofs.UnitRoots.{usable-checked, found-rooted}
+use Rattle.compare.specs.declared.finer.Finer.the-variants.{Equal}
 use Rattle.compare.specs.Finer.{comparison, finerNumber}
 use Rattle.compare.specs.Compare.{afterBoth, compareRows, compareLocated, compareUnit}
 use Rattle.compare.specs.Tests.{Passes, Tabled, Comparable}
+use Rattle.compare.proofs.Unions.{finer-self}
 use Rattle.compare.proofs.Trees.{trees-comparable}
 
 -- ---- two tables of a root, by what their tests end with and by what they answer
@@ -56,6 +61,19 @@ module _ (k : Kind) (root : Node) (first second : List ℕ) where
 
     pub both-accepted : Passes k root second → compareRows k root first second ≡ Accepted (finerNumber (comparison (rowsIn first) (rowsIn second)))
     both-accepted q = both-go (answer-goes (testRows k root first) (p .answer) .2) (answer-goes (testRows k root second) (q .answer) .2)
+
+-- ---- a table and one with the same rows
+
+module _ {k : Kind} {root : Node} (tabled : Tabled k root) (first second : List ℕ) (p : Passes k root first) (long : length first ≡ length second) (same : rowsIn first ≡ rowsIn second) where
+  same-test : testRows k root second ≡ testRows k root first
+  unfolding testRows
+  same-test = ap₂ (λ n rows. cond (eqb (n % 8) 0) (flagsFrom k root rows) (refuse 15 (n / 8))) (sym long) (sym same)
+
+  pub same-equal : compareRows k root first second ≡ Accepted (finerNumber Equal)
+  same-equal =
+      let c = tabled .comparable first first p p in
+      let e = finer-self (rowsIn first) (c .one .once) in
+      both-accepted k root first second p (record { flags = p .flags; answer = ap answerOf same-test ∙ p .answer }) ∙ rw (← same, e)
 
 pub turned : {rows others : List Row} → Comparable rows others → Comparable others rows
 turned c = record { one = c .other; other = c .one; same = λ px py. sym (c .same px py) }

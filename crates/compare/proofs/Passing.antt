@@ -1,8 +1,8 @@
 -- A pass over the rows of a table, a number each: what is left to do from one row on.
 use Prim.Native.Nat.{ℕ, _+_, _*_, _/_, _≤_, _<_}
-use mathlib.Core.Path.{_≡_, refl, sym, _∙_}
+use mathlib.Core.Path.{_≡_, refl, sym, ap, ap₂, _∙_}
 use mathlib.Core.Bool.{Bool, true, false, not, _&&_}
-use mathlib.Core.List.{List}
+use mathlib.Core.List.{List, _∷_}
 use native.Mathlib.Nat.{zero-add}
 use lib.ListN.{length}
 use Rattle.sides.proofs.Bools.{clash}
@@ -12,7 +12,7 @@ use Rattle.laws.proofs.Tables.{row-has}
 use Rattle.nodes.specs.RowNodes.{nodeIn}
 use Rattle.marks.specs.Table.{rowsLeft, wordAt, Eight}
 use Rattle.marks.proofs.NextRows.{from-next, from-end, from-drop}
-use Rattle.marks.proofs.RowWords.{at-word}
+use Rattle.marks.proofs.RowWords.{at-word, same-words}
 use Rattle.cells.specs.Map.{Inside, filled}
 use Rattle.cells.specs.Held.{filledBy}
 use Rattle.cells.proofs.Holding.{celled-inside}
@@ -64,3 +64,27 @@ module _ (bytes : List ℕ) where
   pub corner-last : (k : ℕ) → length bytes / 8 ≤ k → (map : List ℕ) → cornersInside map (rowsLeft bytes k) ≡ true
   unfolding everyRow
   corner-last k h map = rw (from-end bytes k h)
+
+-- ---- two tables of one length, row by row
+
+module _ (first second : List ℕ) where
+  -- where they agree from a row on, they agree
+  abbrev pub AgreeFrom : ℕ → Type 0
+  AgreeFrom k = rowsLeft first k ≡ rowsLeft second k → rowsIn first ≡ rowsIn second
+
+  pub agree-first : AgreeFrom 0
+  agree-first e = sym (from-first first) ∙ e ∙ from-first second
+
+  module _ (k : ℕ) (h : k < length first / 8) (long : length first ≡ length second) where
+    pub agree-next : {a b : ℕ} → (a ≡ wordAt first (k * 8)) × Eight first (k * 8) → (b ≡ wordAt second (k * 8)) × Eight second (k * 8) → a ≡ b
+        → AgreeFrom k → AgreeFrom (k + 1)
+    agree-next v w same agree e =
+        let row = same-words (v .1) (w .1) (sym (v .0) ∙ same ∙ w .0) in
+        agree (from-next first k h ∙ ap₂ (λ r rows. r ∷ rows) row e ∙ sym (from-next second k (rw long at h)))
+
+    -- where two rows differ, so do the tables
+    pub differ-at : {a b : ℕ} → a ≡ wordAt first (k * 8) → b ≡ wordAt second (k * 8) → ¬ (a ≡ b) → ¬ (first ≡ second)
+    differ-at v w other e = other (v ∙ ap (λ bytes. wordAt bytes (k * 8)) e ∙ sym w)
+
+  pub agree-all : (k : ℕ) → length first / 8 ≤ k → length first ≡ length second → AgreeFrom k → rowsIn first ≡ rowsIn second
+  agree-all k h long agree = agree (from-end first k h ∙ sym (from-end second k (rw long at h)))

@@ -139,3 +139,17 @@ module _ (rows others : List Row) where
           let also = lies-samples r (block .1 .row) px py (block .1 .has) (found .1 .has) in
           let is : block .1 .row ≡ b = one-row px py others (once px py) also there (block .0) j (block .1 .is) e in
           (found .0, record { row = r; is = found .1 .is; has = (found .1 .has, subst (λ q. liesIn r q ≡ true) is (block .1 .has)) })
+
+-- ---- a table and itself
+
+lies-self : (r : Row) → liesIn r r ≡ true
+unfolding liesIn
+lies-self r = rw (
+  le-leb (r .x) (r .x) (omega arith),
+  le-leb (r .x + 2 ^ r .ew) (r .x + 2 ^ r .ew) (omega arith),
+  le-leb (r .y) (r .y) (omega arith),
+  le-leb (r .y + 2 ^ r .eh) (r .y + 2 ^ r .eh) (omega arith),
+)
+
+pub finer-self : (rows : List Row) → ((px py : ℕ) → copies px py rows ≤ 1) → finerOrEqual rows rows ≡ true
+finer-self rows once = finer-from rows rows once (λ px py. refl) (λ i r e. (i, record { row = r; is = e; has = lies-self r }))

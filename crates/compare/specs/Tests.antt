@@ -1,9 +1,9 @@
 -- The comparison as the code makes it, by a map of the other table, and what it asks of the two tables.
 use Prim.Native.Nat.{ℕ, _≤_}
 use mathlib.Core.Path.{_≡_}
-use mathlib.Core.Bool.{Bool, _&&_}
+use mathlib.Core.Bool.{Bool, true, false, _&&_}
 use mathlib.Core.List.{List}
-use lib.ListN.{getD}
+use lib.ListN.{length, getD}
 use Rattle.tree.specs.declared.Node.{Node}
 use Rattle.tree.specs.Kind.{Kind}
 use Rattle.tree.specs.Rows.{Row, rowsIn}
@@ -18,6 +18,11 @@ use Rattle.walks.specs.Rooted.{Rooted}
 use Rattle.cells.specs.Map.{cellAt}
 use Rattle.cells.specs.Held.{Celled}
 use Rattle.compare.specs.Finer.{everyRow, spanIn}
+
+-- whether two tables have the same length and the same rows; where they have not, their bytes differ
+pub record Alike (first second : List ℕ) (answer : Bool) : Type 0 where
+  pub yes : answer ≡ true → (length first ≡ length second) × (rowsIn first ≡ rowsIn second)
+  pub no : answer ≡ false → ¬ (first ≡ second)
 
 -- a node lies inside another
 abbrev pub nodeInside : Node → Node → Bool

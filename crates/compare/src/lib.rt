@@ -29,14 +29,21 @@ fn after_first(l: Limits, root: Node, first: &[u8], second: &[u8]) -> Answer
     }
 }
 
-// The comparison of two tables, by the root of their unit.
+// The comparison of two tables, by the root of their unit. Where they are the same, as most are of two encodings that differ
+// little, one test is enough.
 fn compare_rows(l: Limits, root: Node, first: &[u8], second: &[u8]) -> Answer
     requires { ⌜ Tabled (luma l) root ⌝ }
     ensures { λ r. ⌜ r ≡ compareRows (luma l) root (now (first .entry)) (now (second .entry)) ⌝ }
 {
     match writer::test_table(l, root, first) {
         Answer::Refused(number, place) => Answer::Refused(number, place),
-        Answer::Accepted(_flags) => after_first(l, root, first, second),
+        Answer::Accepted(_flags) => {
+            if tables::same_table(first, second) {
+                Answer::Accepted(Finer::Equal.number())
+            } else {
+                after_first(l, root, first, second)
+            }
+        }
     }
 }
 

@@ -8,7 +8,7 @@ ghost use Rattle.tree.specs.Rows.{rowsIn};
 ghost use Rattle.nodes.specs.RowNodes.{nodeIn};
 ghost use Rattle.cells.specs.Held.{filledBy};
 ghost use Rattle.compare.specs.Finer.{spanIn, finerOrEqual};
-ghost use Rattle.compare.specs.Tests.{nodeInside, cornersInside, Tiles, Comparable};
+ghost use Rattle.compare.specs.Tests.{Alike, nodeInside, cornersInside, Tiles, Comparable};
 
 // Whether l samples from a on lie among the m from b on.
 fn among(a: u32, l: u32, b: u32, m: u32) -> bool
@@ -16,6 +16,24 @@ fn among(a: u32, l: u32, b: u32, m: u32) -> bool
     ensures { λ r. ⌜ r ≡ spanIn a l b m ⌝ }
 {
     (b <= a) & (a + l <= b + m)
+}
+
+// Whether two tables have the same length and the same rows.
+pub(crate) fn same_table(first: &[u8], second: &[u8]) -> bool
+    ensures { λ r. ⌜ Alike (now (first .entry)) (now (second .entry)) r ⌝ }
+{
+    if first.len() != second.len() {
+        return false;
+    }
+    let n = first.len() / 8;
+    let mut k = 0;
+    while k < n {
+        if marks::word_at(first, k * 8) != marks::word_at(second, k * 8) {
+            return false;
+        }
+        k += 1;
+    }
+    true
 }
 
 // Whether a row's block lies inside another's.

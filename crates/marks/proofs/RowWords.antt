@@ -172,3 +172,10 @@ module _ {bytes : List ℕ} {i : ℕ} (b : Eight bytes i) where
         go : (t : Bool) → eqb (wordAt bytes i) (rowWord (rowOf n)) ≡ t → t ≡ sameRow (rowAt bytes i) (rowOf n)
         go true e = sym (same-word (eqb-true _ _ e))
         go false e = sym (other-word (λ k. clash (eq-eqb _ _ k) e))
+
+-- two rows of tables are the same where their numbers are
+pub same-words : {bytes others : List ℕ} {i : ℕ} → Eight bytes i → Eight others i → wordAt bytes i ≡ wordAt others i → rowAt bytes i ≡ rowAt others i
+same-words {bytes} {others} {i} a b e =
+    let r = rowAt bytes i in
+    let s = rowAt others i in
+    same-row r s (same-small r s (of-bytes a) (of-bytes b) (sym (word-bytes r) ∙ ap wordBytes (at-word a ∙ e ∙ sym (at-word b)) ∙ word-bytes s))
