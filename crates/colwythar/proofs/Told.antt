@@ -2,16 +2,18 @@
 use mathlib.Core.Path.{_≡_, refl}
 use mathlib.Core.Bool.{true}
 use Rattle.settings.specs.Checks.{settingsRefusal}
+use Rattle.settings.specs.Faults.{settingsNumbers}
 use Rattle.settings.specs.Units.{countedBy, countNumber}
 use Rattle.settings.proofs.Numbers.{zero-picked}
 use Rattle.unit.specs.Units.{Units}
-use Rattle.unit.specs.Faults.{readNumbers, turnNumbers}
+use Rattle.unit.specs.Faults.{readNumbers, rowsNumbers, turnNumbers}
 use Rattle.unit.proofs.Decided.{zero-accepts, reading-decides, turning-decides}
 use Rattle.unit.proofs.Luma.{luma-sound}
 use Rattle.unit.proofs.Numbers.{lacks}
 use Rattle.unit.proofs.Sound.{Sound}
 use Rattle.page.specs.PartitionPage.{pageNumbers}
 use Rattle.page.proofs.PartitionPage.{partition-page}
+use Rattle.compare.proofs.PartitionsCompared.{partitions-compared}
 use Rattle.picture.specs.State.{openedBy}
 use Rattle.picture.specs.Session.{openedNumber}
 use Rattle.picture.specs.CallFaults.{callNumbers}
@@ -35,6 +37,8 @@ unfolding openedBy
 told = record {
   units = λ s. tells (luma-sound s) refl refl;
   pages = λ s a bytes small page. zero-accepts pageNumbers refl _ (partition-page .decided s a bytes small page .uses);
+  comparisons = λ s a first second small small₁.
+      zero-accepts (rowsNumbers settingsNumbers) refl _ (partitions-compared .decided s a first second small small₁ .uses);
   opens = λ s. zero-picked openedNumber _ _ (settingsRefusal s) refl refl;
   h265-units = λ s. tells (h265-sound s) refl refl;
   h265-opens = λ s. zero-picked h265.openedNumber _ _ (h265s.settingsRefusal s) refl refl;

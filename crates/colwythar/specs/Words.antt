@@ -15,6 +15,7 @@ use Rattle.unit.specs.Reader.{readIn}
 use Rattle.unit.specs.Writer.{writeIn}
 use Rattle.unit.specs.Exactly.{Bytes}
 use Rattle.page.specs.Page.{writePage}
+use Rattle.compare.specs.Compare.{compareUnit}
 use Rattle.picture.specs.declared.Opened.{Opened}
 use Rattle.picture.specs.declared.Opened.the-variants as opened
 use Rattle.picture.specs.State.{Call, callIn, nextDue}
@@ -25,7 +26,7 @@ use Rattle.h265.specs.declared.session.Opened as h265o
 use Rattle.h265.specs.declared.session.Opened.the-variants as h265opened
 use Rattle.h265.specs.Session as h265
 
--- an answer is two words: 0 where accepted, else the number; the count answered, or the place
+-- an answer is two words: 0 where accepted, else the number; the count answered, or the number of a comparison, or the place
 abbrev pub answerWords : Answer → List ℕ
 answerWords answer = numberOf answer ∷ valueOf answer ∷ []
 
@@ -73,6 +74,7 @@ pub record Told : Type 0 where
   pub units : (s : Settings) → Tells (unitsOf s)
   pub pages : (s : Settings) (a : ℕ) (bytes : List ℕ) → Bytes bytes → (page : List ℕ)
       → ZeroIsAccepted (writePage s a bytes page .answer)
+  pub comparisons : (s : Settings) (a : ℕ) (first second : List ℕ) → Bytes first → Bytes second → ZeroIsAccepted (compareUnit s a first second)
   pub opens : (s : Settings) → (openedNumber (opening s) ≡ 0) ↔ (opening s ≡ opened.Fresh (record { settings = s; due = 0 }))
   pub h265-units : (s : h265s.Settings) → Tells (h265u.unitsOf s)
   pub h265-opens : (s : h265s.Settings)

@@ -15,12 +15,13 @@ use Rattle.tree.specs.declared.Node.{Node}
 use Rattle.tree.specs.Kind.{Kind, luma}
 use Rattle.tree.specs.Rows.{Row, rowsIn}
 use Rattle.tree.specs.Run.{goes, stops, refuse}
+use Rattle.laws.proofs.Tests.{never}
 use Rattle.unit.specs.declared.Answer.{Answer}
 use Rattle.unit.specs.declared.Answer.the-variants.{Accepted, Refused}
 use Rattle.unit.specs.Answers.{answerOf}
 use Rattle.unit.specs.Units.{Units, refusalIn, rootIn, locatedIn, rootOf}
 use Rattle.unit.specs.Luma.{limitsOf, unitsOf}
-use Rattle.unit.specs.Writer.{flagsFrom, testRows}
+use Rattle.unit.specs.Writer.{flagsFrom, testRows, testLocated}
 use Rattle.unit.proofs.Accepts.{answer-stops, answer-goes}
 use Rattle.unit.proofs.Located.{found}
 use Rattle.unit.proofs.Luma.{luma-sound, usable}
@@ -61,6 +62,26 @@ module _ (k : Kind) (root : Node) (first second : List ℕ) where
 
     pub both-accepted : Passes k root second → compareRows k root first second ≡ Accepted (finerNumber (comparison (rowsIn first) (rowsIn second)))
     both-accepted q = both-go (answer-goes (testRows k root first) (p .answer) .2) (answer-goes (testRows k root second) (q .answer) .2)
+
+-- ---- two tables of a unit that was looked for
+
+module _ (k : Kind) (first second : List ℕ) where
+  pub located-first : (at : Located) {number place : ℕ} → testLocated k at first .end ≡ stops number place → compareLocated k at first second ≡ Refused number place
+  unfolding testLocated compareLocated
+  located-first (unit.At q) e = first-stopped k (rootOf q) first second e
+  located-first (unit.Refused m) {number} {place} e = let x : m ≡ number = cc in let y : 0 ≡ place = cc in ap₂ Refused x y
+
+  pub located-second : (at : Located) {rest : List Row} {number place : ℕ} → testLocated k at first .end ≡ goes rest
+      → testLocated k at second .end ≡ stops number place → compareLocated k at first second ≡ Refused number place
+  unfolding testLocated compareLocated
+  located-second (unit.At q) e f = second-stopped k (rootOf q) first second e f
+  located-second (unit.Refused m) e f = never (cc)
+
+  pub located-both : (at : Located) {rest rest₁ : List Row} → testLocated k at first .end ≡ goes rest → testLocated k at second .end ≡ goes rest₁
+      → compareLocated k at first second ≡ Accepted (finerNumber (comparison (rowsIn first) (rowsIn second)))
+  unfolding testLocated compareLocated
+  located-both (unit.At q) e f = both-go k (rootOf q) first second e f
+  located-both (unit.Refused m) e f = never (cc)
 
 -- ---- a table and one with the same rows
 

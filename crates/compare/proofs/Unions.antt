@@ -142,7 +142,7 @@ module _ (rows others : List Row) where
 
 -- ---- a table and itself
 
-lies-self : (r : Row) → liesIn r r ≡ true
+pub lies-self : (r : Row) → liesIn r r ≡ true
 unfolding liesIn
 lies-self r = rw (
   le-leb (r .x) (r .x) (omega arith),

@@ -19,7 +19,7 @@ numberOf (Refused number place) = number
 abbrev pub ZeroIsAccepted : Answer → Type 0
 ZeroIsAccepted answer = (numberOf answer ≡ 0) ↔ ((count : ℕ) × (answer ≡ Accepted count))
 
--- its value: the place of a refusal, or the count that an accepted call answers, of rows, flags or bytes of a page
+-- its value: the place of a refusal, or what an accepted call answers: the count of rows, flags or bytes of a page, or the number of a comparison
 abbrev pub valueOf : Answer → ℕ
 valueOf (Accepted count) = count
 valueOf (Refused number place) = place

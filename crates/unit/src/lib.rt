@@ -9,7 +9,8 @@ ghost use Rattle.unit.specs.Answers.{numberOf, valueOf};
 ghost use Rattle.unit.specs.Luma.{limitsOf};
 ghost use Rattle.unit.specs.Units.{rootOf};
 
-// The answer of a call: how many rows, flags or bytes of a page there are, or a refusal's number and place.
+// The answer of a call: how many rows, flags or bytes of a page there are, or which of two tables is finer, or a refusal's
+// number and place.
 pub enum Answer {
     Accepted(usize),
     Refused(u32, usize),
