@@ -1,5 +1,5 @@
 -- The number of a row that fits its bytes: it says the row.
-use Prim.Native.Nat.{ℕ, _+_, _%_, _/_, _^_, _≤_}
+use Prim.Native.Nat.{_%_, _^_}
 use mathlib.Core.Path.{_≡_, sym, _∙_}
 use native.Mathlib.Omega.{arith}
 use Rattle.tree.specs.Rows.{Row}

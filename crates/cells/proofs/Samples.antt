@@ -1,6 +1,6 @@
 -- The samples of a row of whole cells, and its cells: a sample of the row's square lies in the row exactly where its cell is one of the row's.
 use Prim.Native.Nat.{ℕ, _+_, _-_, _*_, _/_, _%_, _^_, _≤_, _<_}
-use mathlib.Core.Path.{_≡_, sym, _∙_}
+use mathlib.Core.Path.{_≡_}
 use native.Mathlib.Omega.{arith}
 use lib.Pow.{pow-pos}
 use Rattle.tree.specs.Rows.{Row}

@@ -1,31 +1,32 @@
 -- The map of a unit: each cell inside the unit and the picture holds its row.
-use Prim.Native.Nat.{ℕ, _/_, _≤_}
+use Prim.Native.Nat.{ℕ, _/_, _<_}
 use mathlib.Core.Path.{_≡_, refl}
 use mathlib.Core.List.{List}
 use native.Mathlib.Omega.{arith}
-use lib.ListN.{length}
+use lib.ListN.{length, getD}
 use lib.Pow.{pow-pos}
 use Rattle.tree.specs.declared.Node.{Node}
-use Rattle.tree.specs.declared.Direction.{Direction}
 use Rattle.tree.specs.declared.Direction.the-variants.{Horizontal, Vertical}
 use Rattle.tree.specs.Kind.{Kind}
-use Rattle.tree.specs.Splits.{along}
 use Rattle.tree.specs.Rows.{Row}
 use Rattle.tree.specs.Tree.{Tree, rowsOf}
-use Rattle.laws.specs.Directions.{corner}
 use Rattle.laws.specs.Every.{Every}
-use Rattle.laws.specs.Geometry.{copies, SmallRow}
-use Rattle.laws.specs.CellOrder.{RowIn}
+use Rattle.laws.specs.Geometry.{inRow}
+use Rattle.laws.specs.CellOrder.{RowIn, RowAt}
 use Rattle.laws.proofs.Cells.{InOne, small-in-one}
+use Rattle.laws.proofs.Copies.{some-row}
 use Rattle.laws.proofs.Every.{every-map, every-both}
 use Rattle.laws.proofs.Grids.{root-at, root-shape}
-use Rattle.laws.proofs.Leaves.{rowStart, rowExponent}
 use Rattle.laws.proofs.Multiples.{fold-multiple, trans-multiple}
+use Rattle.laws.proofs.Numbered.{every-of}
 use Rattle.laws.proofs.Order.{Within, tree-within}
-use Rattle.laws.proofs.TreeSamples.{tree-once}
+use Rattle.laws.proofs.Rectangles.{Between}
+use Rattle.laws.proofs.TreeSamples.{tree-once, tree-all}
 use Rattle.laws.proofs.WholeCells.{rows-of-fours}
 use Rattle.unit.proofs.Roots.{Root}
 use Rattle.unit.proofs.RootTree.{root-small}
+use Rattle.blocks.specs.RowNumbers.{rowWord}
+use Rattle.cells.specs.Map.{cellAt}
 use Rattle.cells.specs.Held.{Celled, Held, filledBy}
 use Rattle.cells.proofs.Holding.{rows-held}
 
@@ -60,3 +61,13 @@ module _ {k : Kind} {root : Node} (r : Root k root) (t : Tree k root) where
 
   pub tree-held : (map : List ℕ) → length map ≡ 1024 → Every (Held (filledBy map (rowsOf t))) (rowsOf t)
   tree-held map long = rows-held tree-celled (λ px py. tree-once (r .valid) (root-shape (r .square)) t .most px py) map long
+
+  -- the cell of each sample of the unit that lies in the picture
+  pub each-cell : (map : List ℕ) → length map ≡ 1024 → (px py : ℕ) → Between (root .x) (root .w) px → Between (root .y) (root .h) py
+      → px < k .limits .width → py < k .limits .height
+      → (i : ℕ) × RowAt (λ row. (0 < inRow row px py) × (getD (filledBy map (rowsOf t)) (cellAt px py) 0 ≡ rowWord row)) (rowsOf t) i
+  each-cell map long px py x y wide high =
+      let all = tree-all (r .valid) (root-shape (r .square)) t px py x y wide high in
+      let found = some-row px py (rowsOf t) (omega arith) in
+      let held = every-of (tree-held map long) (found .0) (found .1 .is) in
+      (found .0, record { row = found .1 .row; is = found .1 .is; has = (found .1 .has, held .at px py (found .1 .has)) })

@@ -27,7 +27,6 @@ use Rattle.unit.proofs.Located.{found}
 use Rattle.unit.proofs.Luma.{luma-sound, usable}
 use Rattle.unit.proofs.Sound.{Sound, root-of}
 use Rattle.unit.proofs.Tested.{unit-tested, passes}
-use Rattle.walks.specs.Rooted.{Rooted}
 use Rattle.walks.proofs.UnitRoots.{usable-checked, found-rooted}
 use Rattle.compare.specs.declared.finer.Finer.the-variants.{Equal}
 use Rattle.compare.specs.Finer.{comparison, finerNumber}

@@ -1,7 +1,7 @@
 -- The code's test: by the map of the other table, each row lies inside the block that has its corner exactly where the table is finer or equal.
 use Prim.Native.Nat.{ℕ, _<_}
-use mathlib.Core.Path.{_≡_, refl, sym, ap, ap₂, _∙_}
-use mathlib.Core.Bool.{true, _&&_}
+use mathlib.Core.Path.{_≡_, sym, _∙_}
+use mathlib.Core.Bool.{true}
 use mathlib.Core.List.{List}
 use mathlib.Core.Option.{some}
 use native.Mathlib.Omega.{arith}
@@ -16,7 +16,7 @@ use Rattle.cells.specs.Held.{Held, filledBy}
 use Rattle.cells.proofs.Numbers.{says-x, says-y, says-w, says-h}
 use Rattle.cells.proofs.Holding.{rows-held}
 use Rattle.compare.specs.Finer.{liesIn, finerOrEqual}
-use Rattle.compare.specs.Tests.{nodeInside, cornerInside, cornersInside, Comparable}
+use Rattle.compare.specs.Tests.{cornerInside, cornersInside, Comparable}
 use Rattle.compare.proofs.Several.{same-tests, every-of, every-from}
 use Rattle.compare.proofs.Unions.{has-copies, finer-of, finer-from}
 

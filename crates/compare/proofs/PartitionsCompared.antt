@@ -1,16 +1,15 @@
 -- R-9 for every unit: `PartitionsCompared`.
 use Prim.Native.Nat.{ℕ}
 use mathlib.Core.Path.{_≡_, refl, sym, ap, _∙_}
-use mathlib.Core.List.{List, []}
+use mathlib.Core.List.{List}
 use mathlib.Core.Logic.{_↔_}
 use Rattle.settings.specs.declared.Settings.{Settings}
 use Rattle.settings.specs.Faults.{settingsNumbers}
 use Rattle.settings.specs.Units.{unitRefusal}
-use Rattle.tree.specs.Rows.{Row, tableBytes, rowsIn}
+use Rattle.tree.specs.Rows.{Row, tableBytes}
 use Rattle.tree.specs.Run.{goes, stops}
-use Rattle.tree.specs.Tree.{flagsOf, rowsOf}
+use Rattle.tree.specs.Tree.{rowsOf}
 use Rattle.laws.specs.Geometry.{span}
-use Rattle.laws.proofs.Runs.{gives}
 use Rattle.laws.proofs.Tests.{never}
 use Rattle.unit.specs.declared.Answer.the-variants.{Accepted, Refused}
 use Rattle.unit.specs.Units.{locatedIn}

@@ -1,6 +1,6 @@
 -- Finer, for two tables with the same samples, each once: a table is finer or equal exactly where each of its rows lies inside the other's block that has its corner.
 use Prim.Native.Nat.{ℕ, _+_, _-_, _^_, _≤_, _<_}
-use mathlib.Core.Path.{_≡_, refl, sym, ap, subst, _∙_}
+use mathlib.Core.Path.{_≡_, refl, subst}
 use mathlib.Core.Bool.{Bool, true, _&&_}
 use mathlib.Core.List.{List}
 use mathlib.Core.Option.{some}

@@ -1,5 +1,5 @@
 -- Every row of a unit lies inside one pipeline unit or consists of whole ones: no open split of a node above 64 cuts through one.
-use Prim.Native.Nat.{ℕ, _*_, _%_, _≤_, _<_, max}
+use Prim.Native.Nat.{ℕ, _*_, _≤_, _<_, max}
 use mathlib.Core.Path.{_≡_, refl}
 use mathlib.Core.Logic.{_⊎_, inl, inr}
 use mathlib.Core.Bool.{true, false}

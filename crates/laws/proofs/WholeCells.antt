@@ -8,7 +8,7 @@ use Rattle.tree.specs.declared.Direction.{Direction}
 use Rattle.tree.specs.declared.Direction.the-variants.{Horizontal, Vertical}
 use Rattle.tree.specs.declared.Decision.{Decision}
 use Rattle.tree.specs.Kind.{Kind}
-use Rattle.tree.specs.Splits.{along, rightsOf, allows}
+use Rattle.tree.specs.Splits.{rightsOf, allows}
 use Rattle.tree.specs.Children.{children}
 use Rattle.tree.specs.Rows.{rowOf}
 use Rattle.tree.specs.Tree.{Tree, rowsOf}

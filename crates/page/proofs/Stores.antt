@@ -1,5 +1,5 @@
 -- A line stored column by column, and the lines of a page stored one after another.
-use Prim.Native.Nat.{ℕ, zero, suc, _+_, _*_, _^_, _≤_, _<_}
+use Prim.Native.Nat.{ℕ, zero, suc, _+_, _*_, _^_, _≤_}
 use mathlib.Core.Path.{_≡_, refl, sym, ap, _∙_}
 use mathlib.Core.List.{List, [], _∷_, _++_, append-assoc, append-nil}
 use native.Mathlib.Omega.{arith}
@@ -8,7 +8,6 @@ use native.Mathlib.Numerals.{add-one}
 use lib.ListN.{length, length-append, drop, set, length-drop}
 use lib.Seq.{sets, sets-eq, take-append-seam, drop-append-add, drop-drop}
 use Rattle.tree.specs.Rows.{Row, rowAt, rowsAt}
-use Rattle.laws.specs.Every.{Every, every-more}
 use Rattle.page.specs.Lines.{column, rowColumns, line, lines}
 use Rattle.page.specs.Text.{sixBytes}
 use Rattle.page.proofs.Fitting.{Held}

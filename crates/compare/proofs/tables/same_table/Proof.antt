@@ -1,5 +1,5 @@
 use Prim.Native.Nat.{_-_, _≤_, zero-le}
-use mathlib.Core.Path.{_≡_, refl, ap}
+use mathlib.Core.Path.{refl, ap}
 use native.Mathlib.Omega.{arith}
 use lib.ListN.{length}
 use denote.Ref.{now}
