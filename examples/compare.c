@@ -3,6 +3,7 @@
 
 /* Reads two trees of a unit, one block and its quarters, and says which table is finer. */
 int main(void) {
+    /* In the order of COLWYTHAR_EQUAL_BLOCKS and those after it. */
     static const char *const words[4] = {"equal blocks", "first finer", "second finer", "neither finer"};
     const uint32_t settings[8] = {64, 4, 8, 3, 32, 32, 64, 64};
     const uint8_t block[] = {0}, quarters[] = {1, 0, 0, 0, 0};

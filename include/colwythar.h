@@ -13,8 +13,8 @@
  * of the height, QT depth, MTT depth, which is 0 in H.265.
  *
  * An answer is two numbers. answer[0] is COLWYTHAR_ACCEPTED, which is 0, where the call is accepted, else the number of
- * the refusal, which is never 0; answer[1] is the count of rows, flags, units or bytes of a page, or the refusal's place,
- * 0 where none is named below. A refused call leaves every buffer and the due address as they were; an accepted one leaves
+ * the refusal, which is never 0; answer[1] is the count of rows, flags, units or bytes of a page, or which of two tables is
+ * finer, or the refusal's place, 0 where none is named below. A refused call leaves every buffer and the due address as they were; an accepted one leaves
  * the bytes past its answer as they were.
  *
  * What the caller must see to: pointers are not null, also where their length is 0, and point to as much as their
@@ -66,6 +66,12 @@ extern "C" {
  * never too short. */
 #define COLWYTHAR_LINE_BYTES 33
 #define COLWYTHAR_MAX_PAGE_BYTES 33792
+
+/* Which of two tables of a unit is finer, as colwythar_compare answers it. */
+#define COLWYTHAR_EQUAL_BLOCKS  0 /* the two have the same rectangles */
+#define COLWYTHAR_FIRST_FINER   1 /* every block of the second is a union of blocks of the first, not the other way round */
+#define COLWYTHAR_SECOND_FINER  2 /* every block of the first is a union of blocks of the second, not the other way round */
+#define COLWYTHAR_NEITHER_FINER 3
 
 /* The numbers of an answer. Within a group the first that fails, in the order of the numbers, is answered; but 11 and 12
  * are met in the walk, whichever comes first, 27 and 28 are tested before 16, and the session's are tested in the order
@@ -127,6 +133,12 @@ void colwythar_write_flags(const uint32_t settings[8], uint64_t address, const u
  * 23. */
 void colwythar_page(const uint32_t settings[8], uint64_t address, const uint8_t *rows, size_t rows_len, uint8_t *page,
                     size_t page_len, uint64_t answer[2]);
+
+/* Compares two tables of the unit at an address, each the rows that some flags give. Answers COLWYTHAR_EQUAL_BLOCKS,
+ * COLWYTHAR_FIRST_FINER, COLWYTHAR_SECOND_FINER or COLWYTHAR_NEITHER_FINER, or 1 to 10, then 15, 27, 28 and 16 of the first
+ * table, then of the second. Depths and the order of rows play no part. The two tables may overlap. */
+void colwythar_compare(const uint32_t settings[8], uint64_t address, const uint8_t *first, size_t first_len,
+                       const uint8_t *second, size_t second_len, uint64_t answer[2]);
 
 /* Counts the units of a picture, also those at its edges. Answers the number of units, or 1 to 9. */
 void colwythar_unit_count(const uint32_t settings[8], uint64_t answer[2]);
