@@ -1,13 +1,12 @@
 -- The number of a row that fits its bytes: it says the row.
-use Prim.Native.Nat.{_%_, _^_}
-use mathlib.Core.Path.{_≡_, sym, _∙_}
+use Prim.Native.Nat.{_^_}
+use mathlib.Core.Path.{_≡_}
 use native.Mathlib.Omega.{arith}
 use Rattle.tree.specs.Rows.{Row}
 use Rattle.blocks.specs.RowNumbers.{rowWord}
-use Rattle.blocks.proofs.RowNumbers.{word-is}
 use Rattle.laws.specs.Geometry.{SmallRow}
 use Rattle.nodes.specs.RowNodes.{nodeIn}
-use Rattle.walks.proofs.RowFields.{Six, unpacked}
+use Rattle.walks.proofs.RowFields.{Six, row-six}
 
 module _ {r : Row} (s : SmallRow r) where
   six : Six (rowWord r) (r .x) (r .y) (r .ew) (r .eh) (r .qt) (r .mtt)
@@ -17,14 +16,7 @@ module _ {r : Row} (s : SmallRow r) where
       let w = s .mostW in
       let h = s .mostH in
       let d = s .depths in
-      let p = word-is r in
-      let ex : r .x % 65536 ≡ r .x = omega arith in
-      let ey : r .y % 65536 ≡ r .y = omega arith in
-      let ew : r .ew % 256 ≡ r .ew = omega arith in
-      let eh : r .eh % 256 ≡ r .eh = omega arith in
-      let eq : r .qt % 256 ≡ r .qt = omega arith in
-      let em : r .mtt % 256 ≡ r .mtt = omega arith in
-      unpacked (omega arith) (omega arith) (omega arith) (omega arith) (omega arith) (omega arith) (rowWord r) (sym p ∙ rw (ex, ey, ew, eh, eq, em))
+      row-six r (omega arith) (omega arith) (omega arith) (omega arith) (omega arith) (omega arith)
 
   pub says-x : nodeIn (rowWord r) .x ≡ r .x
   unfolding nodeIn

@@ -19,20 +19,16 @@ pub record Whole (square a l : ℕ) : Type 0 where
   pub corner : a / 128 ≡ square
   pub one : a / 128 ≡ (a + l - 1) / 128
 
--- a cell of a line is one of so many from one on
-pub record Among (from count c : ℕ) : Type 0 where
-  pub low : from ≤ c
-  pub high : c < from + count
-
 module _ {square a l : ℕ} (w : Whole square a l) where
   pub cells-fit : a / 4 % 32 + l / 4 ≤ 32
   cells-fit = let i = w .starts in let j = w .ends in let k = w .some in let o = w .one in omega arith
 
   module _ (p : ℕ) where
-    pub in-square : Between a l p → p / 128 ≡ square
+    in-square : Between a l p → p / 128 ≡ square
     in-square b = let o = w .one in let c = w .corner in let x = b .low in let y = b .high in omega arith
 
-    pub in-cells : Between a l p → Among (a / 4 % 32) (l / 4) (p / 4 % 32)
+    -- the cells of a line, likewise
+    in-cells : Between a l p → Between (a / 4 % 32) (l / 4) (p / 4 % 32)
     in-cells b =
         let i = w .starts in
         let j = w .ends in
@@ -46,7 +42,7 @@ module _ {square a l : ℕ} (w : Whole square a l) where
         let e : p / 4 / 32 ≡ square = omega arith in
         record { low = omega arith; high = omega arith }
 
-    pub cells-in : p / 128 ≡ square → Among (a / 4 % 32) (l / 4) (p / 4 % 32) → Between a l p
+    cells-in : p / 128 ≡ square → Between (a / 4 % 32) (l / 4) (p / 4 % 32) → Between a l p
     cells-in e b =
         let i = w .starts in
         let j = w .ends in
@@ -58,7 +54,7 @@ module _ {square a l : ℕ} (w : Whole square a l) where
 -- ---- the number of a cell, from its place and its line
 
 module _ (a b wide high p q : ℕ) (fits : a + wide ≤ 32) where
-  pub covers : Among a wide p → Among b high q → Covers high wide (b * 32 + a) (q * 32 + p)
+  covers : Between a wide p → Between b high q → Covers high wide (b * 32 + a) (q * 32 + p)
   covers x y =
       let x₀ = x .low in
       let x₁ = x .high in
@@ -67,7 +63,7 @@ module _ (a b wide high p q : ℕ) (fits : a + wide ≤ 32) where
       let e : q * 32 + p - (b * 32 + a) ≡ (q - b) * 32 + (p - a) = omega arith in
       record { from = omega arith; line = rw e (omega arith); place = rw e (omega arith) }
 
-  pub covered-by : p < 32 → Covers high wide (b * 32 + a) (q * 32 + p) → Among a wide p × Among b high q
+  covered-by : p < 32 → Covers high wide (b * 32 + a) (q * 32 + p) → Between a wide p × Between b high q
   covered-by small s =
       let f = s .from in
       let l = s .line in

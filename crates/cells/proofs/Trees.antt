@@ -1,9 +1,9 @@
 -- The map of a unit: each cell inside the unit and the picture holds its row.
-use Prim.Native.Nat.{ℕ, _/_, _<_}
+use Prim.Native.Nat.{ℕ, _/_}
 use mathlib.Core.Path.{_≡_, refl}
 use mathlib.Core.List.{List}
 use native.Mathlib.Omega.{arith}
-use lib.ListN.{length, getD}
+use lib.ListN.{length}
 use lib.Pow.{pow-pos}
 use Rattle.tree.specs.declared.Node.{Node}
 use Rattle.tree.specs.declared.Direction.the-variants.{Horizontal, Vertical}
@@ -11,8 +11,7 @@ use Rattle.tree.specs.Kind.{Kind}
 use Rattle.tree.specs.Rows.{Row}
 use Rattle.tree.specs.Tree.{Tree, rowsOf}
 use Rattle.laws.specs.Every.{Every}
-use Rattle.laws.specs.Geometry.{inRow}
-use Rattle.laws.specs.CellOrder.{RowIn, RowAt}
+use Rattle.laws.specs.CellOrder.{RowIn}
 use Rattle.laws.proofs.Cells.{InOne, small-in-one}
 use Rattle.laws.proofs.Copies.{some-row}
 use Rattle.laws.proofs.Every.{every-map, every-both}
@@ -20,14 +19,11 @@ use Rattle.laws.proofs.Grids.{root-at, root-shape}
 use Rattle.laws.proofs.Multiples.{fold-multiple, trans-multiple}
 use Rattle.laws.proofs.Numbered.{every-of}
 use Rattle.laws.proofs.Order.{Within, tree-within}
-use Rattle.laws.proofs.Rectangles.{Between}
 use Rattle.laws.proofs.TreeSamples.{tree-once, tree-all}
 use Rattle.laws.proofs.WholeCells.{rows-of-fours}
 use Rattle.unit.proofs.Roots.{Root}
 use Rattle.unit.proofs.RootTree.{root-small}
-use Rattle.blocks.specs.RowNumbers.{rowWord}
-use Rattle.cells.specs.Map.{cellAt}
-use Rattle.cells.specs.Held.{Celled, Held, filledBy}
+use Rattle.cells.specs.Held.{Celled, Held, filledBy, HoldsUnit}
 use Rattle.cells.proofs.Holding.{rows-held}
 
 module _ {k : Kind} {root : Node} (r : Root k root) (t : Tree k root) where
@@ -59,15 +55,14 @@ module _ {k : Kind} {root : Node} (r : Root k root) (t : Tree k root) where
       let fours = rows-of-fours (r .valid) sh (λ e. trans-multiple (fold-multiple (sh .side e .fold)) (root-at (r .square) e)) t in
       every-map (λ row p. record { small = p .0; whole = p .1 .0; lies = lies row (p .1 .1) }) (every-both (root-small r t) (every-both fours (tree-within (r .valid) root t sh)))
 
-  pub tree-held : (map : List ℕ) → length map ≡ 1024 → Every (Held (filledBy map (rowsOf t))) (rowsOf t)
+  tree-held : (map : List ℕ) → length map ≡ 1024 → Every (Held (filledBy map (rowsOf t))) (rowsOf t)
   tree-held map long = rows-held tree-celled (λ px py. tree-once (r .valid) (root-shape (r .square)) t .most px py) map long
 
-  -- the cell of each sample of the unit that lies in the picture
-  pub each-cell : (map : List ℕ) → length map ≡ 1024 → (px py : ℕ) → Between (root .x) (root .w) px → Between (root .y) (root .h) py
-      → px < k .limits .width → py < k .limits .height
-      → (i : ℕ) × RowAt (λ row. (0 < inRow row px py) × (getD (filledBy map (rowsOf t)) (cellAt px py) 0 ≡ rowWord row)) (rowsOf t) i
-  each-cell map long px py x y wide high =
-      let all = tree-all (r .valid) (root-shape (r .square)) t px py x y wide high in
-      let found = some-row px py (rowsOf t) (omega arith) in
-      let held = every-of (tree-held map long) (found .0) (found .1 .is) in
-      (found .0, record { row = found .1 .row; is = found .1 .is; has = (found .1 .has, held .at px py (found .1 .has)) })
+  pub each-cell : (map : List ℕ) → length map ≡ 1024 → HoldsUnit k root (rowsOf t) (filledBy map (rowsOf t))
+  each-cell map long = record {
+    each = λ px py left right top bottom wide high.
+        let all = tree-all (r .valid) (root-shape (r .square)) t px py (record { low = left; high = right }) (record { low = top; high = bottom }) wide high in
+        let found = some-row px py (rowsOf t) (omega arith) in
+        let held = every-of (tree-held map long) (found .0) (found .1 .is) in
+        (found .0, record { row = found .1 .row; is = found .1 .is; has = (found .1 .has, held .at px py (found .1 .has)) });
+  }

@@ -37,8 +37,7 @@ unfolding openedBy
 told = record {
   units = λ s. tells (luma-sound s) refl refl;
   pages = λ s a bytes small page. zero-accepts pageNumbers refl _ (partition-page .decided s a bytes small page .uses);
-  comparisons = λ s a first second small small₁.
-      zero-accepts (rowsNumbers settingsNumbers) refl _ (partitions-compared .decided s a first second small small₁ .uses);
+  comparisons = λ s a first second small. zero-accepts (rowsNumbers settingsNumbers) refl _ (partitions-compared .decided s a first second small .uses);
   opens = λ s. zero-picked openedNumber _ _ (settingsRefusal s) refl refl;
   h265-units = λ s. tells (h265-sound s) refl refl;
   h265-opens = λ s. zero-picked h265.openedNumber _ _ (h265s.settingsRefusal s) refl refl;

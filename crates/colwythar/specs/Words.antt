@@ -74,7 +74,7 @@ pub record Told : Type 0 where
   pub units : (s : Settings) → Tells (unitsOf s)
   pub pages : (s : Settings) (a : ℕ) (bytes : List ℕ) → Bytes bytes → (page : List ℕ)
       → ZeroIsAccepted (writePage s a bytes page .answer)
-  pub comparisons : (s : Settings) (a : ℕ) (first second : List ℕ) → Bytes first → Bytes second → ZeroIsAccepted (compareUnit s a first second)
+  pub comparisons : (s : Settings) (a : ℕ) (first second : List ℕ) → Bytes first → ZeroIsAccepted (compareUnit s a first second)
   pub opens : (s : Settings) → (openedNumber (opening s) ≡ 0) ↔ (opening s ≡ opened.Fresh (record { settings = s; due = 0 }))
   pub h265-units : (s : h265s.Settings) → Tells (h265u.unitsOf s)
   pub h265-opens : (s : h265s.Settings)

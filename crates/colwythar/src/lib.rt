@@ -74,7 +74,8 @@ pub extern "C" fn colwythar_page(
     put_answer(a, answer);
 }
 
-// The answer of a comparison.
+// The answer of a comparison. It stands for itself so that the compiler meets the comparison after the calls that read, and
+// keeps the search as it was (docs/DECISIONS.md).
 fn tables_compared(settings: &[u32; 8], address: u64, first: &[u8], second: &[u8]) -> Answer
     ensures { λ r. ⌜ r ≡ compareUnit (settingsIn (now (settings .entry))) address (now (first .entry)) (now (second .entry)) ⌝ }
 {

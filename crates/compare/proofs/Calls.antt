@@ -38,16 +38,16 @@ use Rattle.compare.proofs.Trees.{trees-comparable}
 -- ---- two tables of a root, by what their tests end with and by what they answer
 
 module _ (k : Kind) (root : Node) (first second : List ℕ) where
-  pub first-stopped : {number place : ℕ} → testRows k root first .end ≡ stops number place → compareRows k root first second ≡ Refused number place
+  first-stopped : {number place : ℕ} → testRows k root first .end ≡ stops number place → compareRows k root first second ≡ Refused number place
   unfolding compareRows afterBoth
   first-stopped e = rw e
 
-  pub second-stopped : {rest : List Row} {number place : ℕ} → testRows k root first .end ≡ goes rest → testRows k root second .end ≡ stops number place
+  second-stopped : {rest : List Row} {number place : ℕ} → testRows k root first .end ≡ goes rest → testRows k root second .end ≡ stops number place
       → compareRows k root first second ≡ Refused number place
   unfolding compareRows afterBoth
   second-stopped e f = rw (e, f)
 
-  pub both-go : {rest rest₁ : List Row} → testRows k root first .end ≡ goes rest → testRows k root second .end ≡ goes rest₁
+  both-go : {rest rest₁ : List Row} → testRows k root first .end ≡ goes rest → testRows k root second .end ≡ goes rest₁
       → compareRows k root first second ≡ Accepted (finerNumber (comparison (rowsIn first) (rowsIn second)))
   unfolding compareRows afterBoth
   both-go e f = rw (e, f)
@@ -101,7 +101,7 @@ turned c = record { one = c .other; other = c .one; same = λ px py. sym (c .sam
 -- ---- a unit that was looked for
 
 module _ {us : Units} (law : Sound us) (a : ℕ) (h : refusalIn us a ≡ 0) where
-  pub unit-comparable : (first second : List ℕ) → Passes (us .kind) (rootIn us a) first → Passes (us .kind) (rootIn us a) second → Comparable (rowsIn first) (rowsIn second)
+  unit-comparable : (first second : List ℕ) → Passes (us .kind) (rootIn us a) first → Passes (us .kind) (rootIn us a) second → Comparable (rowsIn first) (rowsIn second)
   unit-comparable first second p q =
       let t = passes law a first (ap answerOf (unit-tested law a h first) ∙ p .answer) in
       let u = passes law a second (ap answerOf (unit-tested law a h second) ∙ q .answer) in

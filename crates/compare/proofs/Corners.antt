@@ -10,15 +10,15 @@ use Rattle.tree.specs.Rows.{Row}
 use Rattle.blocks.specs.RowNumbers.{rowWord}
 use Rattle.laws.specs.Every.{Every}
 use Rattle.laws.specs.Geometry.{inRow, SmallRow}
-use Rattle.laws.proofs.Copies.{own-corner, some-row}
-use Rattle.laws.proofs.Numbered as numbered
+use Rattle.laws.proofs.Copies.{own-corner}
+use Rattle.laws.proofs.Numbered.{every-of}
 use Rattle.cells.specs.Held.{Held, filledBy}
 use Rattle.cells.proofs.Numbers.{says-x, says-y, says-w, says-h}
 use Rattle.cells.proofs.Holding.{rows-held}
 use Rattle.compare.specs.Finer.{liesIn, finerOrEqual}
 use Rattle.compare.specs.Tests.{cornerInside, cornersInside, Comparable}
-use Rattle.compare.proofs.Several.{same-tests, every-of, every-from}
-use Rattle.compare.proofs.Unions.{has-copies, finer-of, finer-from}
+use Rattle.compare.proofs.Several.{same-tests, each-of, each-from}
+use Rattle.compare.proofs.Unions.{other-at, finer-of, finer-from}
 
 -- the numbers of two rows say whether the one lies inside the other
 corner-is : {map : List ℕ} {r b : Row} → SmallRow r → SmallRow b → Held map b → 0 < inRow b (r .x) (r .y) → cornerInside map (rowWord r) ≡ liesIn r b
@@ -28,7 +28,7 @@ corner-is {map} {r} {b} s t held here =
 
 module _ {rows others : List Row} (c : Comparable rows others) {map : List ℕ} (held : Every (Held map) others) where
   -- the block that has the corner of a row
-  pub record Block (r : Row) : Type 0 where
+  record Block (r : Row) : Type 0 where
     number : ℕ
     block : Row
     is : getElem? others number ≡ some block
@@ -37,27 +37,24 @@ module _ {rows others : List Row} (c : Comparable rows others) {map : List ℕ} 
 
   block-of : (i : ℕ) (r : Row) → getElem? rows i ≡ some r → Block r
   block-of i r e =
-      let own = own-corner r in
-      let there = has-copies (r .x) (r .y) rows i e (omega arith) in
-      let s = c .same (r .x) (r .y) in
-      let found = some-row (r .x) (r .y) others (omega arith) in
-      let small = numbered.every-of (c .one .celled) i e .small in
-      let other = numbered.every-of (c .other .celled) (found .0) (found .1 .is) .small in
-      let h = numbered.every-of held (found .0) (found .1 .is) in
+      let found = other-at rows others (c .same) i r e in
+      let small = every-of (c .one .celled) i e .small in
+      let other = every-of (c .other .celled) (found .0) (found .1 .is) .small in
+      let h = every-of held (found .0) (found .1 .is) in
       record { number = found .0; block = found .1 .row; is = found .1 .is; has = found .1 .has; tests = corner-is small other h (found .1 .has) }
 
   corners-of : cornersInside map rows ≡ true → finerOrEqual rows others ≡ true
   corners-of h = finer-from rows others (c .other .once) (c .same) (λ i r e.
       let b = block-of i r e in
-      (b .number, record { row = b .block; is = b .is; has = sym (b .tests) ∙ every-of (λ r. cornerInside map (rowWord r)) rows h i e }))
+      (b .number, record { row = b .block; is = b .is; has = sym (b .tests) ∙ each-of (λ r. cornerInside map (rowWord r)) rows h i e }))
 
   corners-from : finerOrEqual rows others ≡ true → cornersInside map rows ≡ true
-  corners-from h = every-from (λ r. cornerInside map (rowWord r)) rows (λ i r e.
+  corners-from h = each-from (λ r. cornerInside map (rowWord r)) rows (λ i r e.
       let b = block-of i r e in
       let own = own-corner r in
       b .tests ∙ finer-of rows others (c .one .once) h i (b .number) e (b .is) (r .x) (r .y) (omega arith) (b .has))
 
-  pub corners-finer : cornersInside map rows ≡ finerOrEqual rows others
+  corners-finer : cornersInside map rows ≡ finerOrEqual rows others
   corners-finer = same-tests (cornersInside map rows) (finerOrEqual rows others) corners-of corners-from
 
 -- of the map that the other table is filled into

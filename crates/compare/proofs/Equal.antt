@@ -1,55 +1,49 @@
 -- Tables with equal blocks: each is finer than the other or equal, and they are compared alike with others.
-use Prim.Native.Nat.{ℕ, _+_, _^_, _<_}
+use Prim.Native.Nat.{ℕ, _^_, _<_}
 use mathlib.Core.Path.{_≡_, refl, sym, ap₂, subst, _∙_}
 use mathlib.Core.Bool.{Bool, true, false}
 use mathlib.Core.List.{List}
 use native.Mathlib.Omega.{arith}
-use native.Mathlib.Decide.{decLt}
-use borrow.Author.Tests.{leb-true}
-use lib.Dec.{leb}
-use lib.Pow.{pow-lt}
 use Rattle.sides.proofs.Bools.{and-left, and-right}
+use Rattle.settings.proofs.Exponents.{below}
 use Rattle.tree.specs.Rows.{Row}
 use Rattle.laws.specs.Geometry.{inRow}
-use Rattle.laws.proofs.Copies.{own-corner, some-row}
+use Rattle.laws.proofs.Copies.{own-corner}
 use Rattle.laws.proofs.Tests.{never}
 use Rattle.compare.specs.declared.finer.Finer.the-variants.{Equal}
 use Rattle.compare.specs.Finer.{spanIn, liesIn, isUnion, finerOrEqual, finerBy, comparison}
 use Rattle.compare.specs.Blocks.{SameBlock, BlocksOf, EqualBlocks}
 use Rattle.compare.specs.Tests.{Comparable}
-use Rattle.compare.proofs.Several.{same-tests, every-of, every-from}
-use Rattle.compare.proofs.Unions.{has-copies, union-of, union-from, lies-self, finer-of, finer-from}
+use Rattle.compare.proofs.Several.{same-tests, each-of, each-from}
+use Rattle.compare.proofs.Unions.{span-ends, other-at, union-of, union-from, lies-self, finer-of, finer-from}
 
 -- ---- one block
 
-pub other-way : {r s : Row} → SameBlock r s → SameBlock s r
+other-way : {r s : Row} → SameBlock r s → SameBlock s r
 other-way e = record { left = sym (e .left); top = sym (e .top); wide = sym (e .wide); high = sym (e .high) }
 
 same-exponent : (a b : ℕ) → 2 ^ a ≡ 2 ^ b → a ≡ b
-same-exponent a b e = go (decLt a b) (decLt b a)
-  where
-    go : Dec (a < b) → Dec (b < a) → a ≡ b
-    go (yes h) _ = let l = pow-lt h in absurd (omega arith)
-    go (no h) (yes k) = let l = pow-lt k in absurd (omega arith)
-    go (no h) (no k) = omega arith
+same-exponent a b e = let l = below a b (omega arith) in let m = below b a (omega arith) in omega arith
 
 -- lengths of which each lies in the other
 same-span : (a l b m : ℕ) → spanIn a l b m ≡ true → spanIn b m a l ≡ true → (a ≡ b) × (l ≡ m)
 same-span a l b m h k =
-    let u = leb-true b a (and-left (leb b a) (leb (a + l) (b + m)) h) in
-    let v = leb-true (a + l) (b + m) (and-right (leb b a) (leb (a + l) (b + m)) h) in
-    let x = leb-true a b (and-left (leb a b) (leb (b + m) (a + l)) k) in
-    let y = leb-true (b + m) (a + l) (and-right (leb a b) (leb (b + m) (a + l)) k) in
+    let e = span-ends a l b m h in
+    let f = span-ends b m a l k in
+    let u = e .0 in
+    let v = e .1 in
+    let x = f .0 in
+    let y = f .1 in
     (omega arith, omega arith)
 
-pub both-lie : (r b : Row) → liesIn r b ≡ true → liesIn b r ≡ true → SameBlock r b
+both-lie : (r b : Row) → liesIn r b ≡ true → liesIn b r ≡ true → SameBlock r b
 unfolding liesIn
 both-lie r b h k =
     let x = same-span (r .x) (2 ^ r .ew) (b .x) (2 ^ b .ew) (and-left _ _ h) (and-left _ _ k) in
     let y = same-span (r .y) (2 ^ r .eh) (b .y) (2 ^ b .eh) (and-right (spanIn (r .x) (2 ^ r .ew) (b .x) (2 ^ b .ew)) _ h) (and-right (spanIn (b .x) (2 ^ b .ew) (r .x) (2 ^ r .ew)) _ k) in
     record { left = x .0; top = y .0; wide = same-exponent (r .ew) (b .ew) (x .1); high = same-exponent (r .eh) (b .eh) (y .1) }
 
-pub same-lies : {r s : Row} → SameBlock r s → (b : Row) → liesIn r b ≡ liesIn s b
+same-lies : {r s : Row} → SameBlock r s → (b : Row) → liesIn r b ≡ liesIn s b
 unfolding liesIn
 same-lies e b = rw (e .left, e .top, e .wide, e .high)
 
@@ -66,9 +60,7 @@ module _ {rows others : List Row} (c : Comparable rows others) where
   pub blocks-of : finerOrEqual rows others ≡ true → finerOrEqual others rows ≡ true → BlocksOf rows others
   blocks-of f g i r e =
       let own = own-corner r in
-      let there = has-copies (r .x) (r .y) rows i e (omega arith) in
-      let s = c .same (r .x) (r .y) in
-      let found = some-row (r .x) (r .y) others (omega arith) in
+      let found = other-at rows others (c .same) i r e in
       let b = found .1 .row in
       let h = finer-of rows others (c .one .once) f i (found .0) e (found .1 .is) (r .x) (r .y) (omega arith) (found .1 .has) in
       let k = finer-of others rows (c .other .once) g (found .0) i (found .1 .is) e (r .x) (r .y) (found .1 .has) (omega arith) in
@@ -105,9 +97,9 @@ module _ (rows rows′ : List Row) (f : BlocksOf rows rows′) where
 
   finer-same : (others others′ : List Row) → BlocksOf others′ others → finerOrEqual rows others ≡ true → finerOrEqual rows′ others′ ≡ true
   unfolding finerOrEqual
-  finer-same others others′ g h = every-from (isUnion rows′) others′ (λ j b e.
+  finer-same others others′ g h = each-from (isUnion rows′) others′ (λ j b e.
       let found = g j b e in
-      union-same (other-way (found .1 .has)) (every-of (isUnion rows) others h (found .0) (found .1 .is)))
+      union-same (other-way (found .1 .has)) (each-of (isUnion rows) others h (found .0) (found .1 .is)))
 
 module _ {first first′ second second′ : List Row} (e : EqualBlocks first first′) (f : EqualBlocks second second′) where
   same-finer : finerOrEqual first second ≡ finerOrEqual first′ second′

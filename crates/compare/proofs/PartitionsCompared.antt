@@ -123,7 +123,7 @@ pub partitions-compared : PartitionsCompared
 unfolding span everyRow someRow everyBelow liesIn isUnion finerOrEqual
 partitions-compared = record {
   trees = trees;
-  decided = λ s a first second small small₁. decided s a first second small;
+  decided = decided;
   blocks = λ first first′ second second′ e f. same-comparison e f;
   same = refl;
   finer = refl;

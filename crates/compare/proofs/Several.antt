@@ -7,7 +7,7 @@ use mathlib.Core.Option.{some}
 use native.Mathlib.Omega.{arith}
 use native.Mathlib.Decide.{ℕ-discrete}
 use lib.ListN.{getElem?}
-use Rattle.sides.proofs.Bools.{clash, and-left, and-right, and-intro, or-right}
+use Rattle.sides.proofs.Bools.{clash, and-left, and-right, and-intro, or-left, or-right}
 use Rattle.tree.specs.Rows.{Row}
 use Rattle.laws.specs.CellOrder.{RowAt}
 use Rattle.laws.proofs.Tests.{never}
@@ -20,16 +20,16 @@ same-tests false true f g = g refl
 same-tests false false f g = refl
 
 module _ (test : Row → Bool) where
-  pub every-of : (rows : List Row) → everyRow test rows ≡ true → {r : Row} (i : ℕ) → getElem? rows i ≡ some r → test r ≡ true
+  pub each-of : (rows : List Row) → everyRow test rows ≡ true → {r : Row} (i : ℕ) → getElem? rows i ≡ some r → test r ≡ true
   unfolding everyRow
-  every-of [] h i e = never (cc)
-  every-of (s ∷ rows) h {r} zero e = let same : s ≡ r = cc in subst (λ q. test q ≡ true) same (and-left (test s) (everyRow test rows) h)
-  every-of (s ∷ rows) h (suc i) e = every-of rows (and-right (test s) (everyRow test rows) h) i e
+  each-of [] h i e = never (cc)
+  each-of (s ∷ rows) h {r} zero e = let same : s ≡ r = cc in subst (λ q. test q ≡ true) same (and-left (test s) (everyRow test rows) h)
+  each-of (s ∷ rows) h (suc i) e = each-of rows (and-right (test s) (everyRow test rows) h) i e
 
-  pub every-from : (rows : List Row) → ((i : ℕ) (r : Row) → getElem? rows i ≡ some r → test r ≡ true) → everyRow test rows ≡ true
+  pub each-from : (rows : List Row) → ((i : ℕ) (r : Row) → getElem? rows i ≡ some r → test r ≡ true) → everyRow test rows ≡ true
   unfolding everyRow
-  every-from [] f = refl
-  every-from (r ∷ rows) f = and-intro (test r) (everyRow test rows) (f 0 r refl) (every-from rows (λ i s e. f (suc i) s e))
+  each-from [] f = refl
+  each-from (r ∷ rows) f = and-intro (test r) (everyRow test rows) (f 0 r refl) (each-from rows (λ i s e. f (suc i) s e))
 
   pub some-of : (rows : List Row) → someRow test rows ≡ true → (i : ℕ) × RowAt (λ r. test r ≡ true) rows i
   unfolding someRow
@@ -45,10 +45,6 @@ module _ (test : Row → Bool) where
   unfolding someRow
   some-from [] i e t = never (cc)
   some-from (s ∷ rows) {r} zero e t = let same : r ≡ s = cc in or-left (test s) (someRow test rows) (subst (λ q. test q ≡ true) same t)
-    where
-      or-left : (a b : Bool) → a ≡ true → (a || b) ≡ true
-      or-left true b h = refl
-      or-left false b h = clash h refl
   some-from (s ∷ rows) (suc i) e t = or-right (test s) (someRow test rows) (some-from rows i e t)
 
 module _ (test : ℕ → Bool) where

@@ -13,7 +13,7 @@ use Rattle.cells.proofs.Trees.{tree-celled}
 use Rattle.compare.specs.Tests.{Tiles, Comparable}
 
 module _ {k : Kind} {root : Node} (r : Root k root) where
-  pub tree-tiles : (t : Tree k root) → Tiles (rowsOf t)
+  tree-tiles : (t : Tree k root) → Tiles (rowsOf t)
   tree-tiles t = record {
     across = root .x / 128;
     down = root .y / 128;
@@ -21,7 +21,7 @@ module _ {k : Kind} {root : Node} (r : Root k root) where
     once = λ px py. tree-once (r .valid) (root-shape (r .square)) t .most px py;
   }
 
-  pub same-samples : (t u : Tree k root) (px py : ℕ) → copies px py (rowsOf t) ≡ copies px py (rowsOf u)
+  same-samples : (t u : Tree k root) (px py : ℕ) → copies px py (rowsOf t) ≡ copies px py (rowsOf u)
   same-samples t u px py = let sh = root-shape (r .square) in covered (r .valid) sh t px py ∙ sym (covered (r .valid) sh u px py)
 
   pub trees-comparable : (t u : Tree k root) → Comparable (rowsOf t) (rowsOf u)

@@ -12,30 +12,34 @@ use Rattle.sides.proofs.Bools.{and-left, and-right, and-intro}
 use Rattle.tree.specs.Rows.{Row}
 use Rattle.laws.specs.Geometry.{inRow, copies}
 use Rattle.laws.specs.CellOrder.{RowAt}
-use Rattle.laws.proofs.Copies.{copies-zero, copies-parts, row-dropped, some-row, one-row}
+use Rattle.laws.proofs.Copies.{own-corner, copies-zero, copies-parts, row-dropped, some-row, one-row}
 use Rattle.laws.proofs.Rectangles.{Between, rectangle-in, in-rectangle, rectangle-most}
 use Rattle.compare.specs.Finer.{someRow, everyBelow, hasSample, spanIn, liesIn, isUnion, finerOrEqual}
-use Rattle.compare.proofs.Several.{every-of, every-from, some-of, some-from, below-of, below-from}
+use Rattle.compare.proofs.Several.{each-of, each-from, some-of, some-from, below-of, below-from}
 
 -- ---- one block
 
 module _ (r : Row) (px py : ℕ) where
-  pub has-of : hasSample r px py ≡ true → 0 < inRow r px py
+  has-of : hasSample r px py ≡ true → 0 < inRow r px py
   has-of h = let e = eqb-true (inRow r px py) 1 h in omega arith
 
-  pub has-from : 0 < inRow r px py → hasSample r px py ≡ true
+  has-from : 0 < inRow r px py → hasSample r px py ≡ true
   has-from h = let m = rectangle-most (r .x) (r .y) (2 ^ r .ew) (2 ^ r .eh) px py in eq-eqb (inRow r px py) 1 (omega arith)
+
+pub span-ends : (a l b m : ℕ) → spanIn a l b m ≡ true → (b ≤ a) × (a + l ≤ b + m)
+span-ends a l b m h = (leb-true b a (and-left (leb b a) (leb (a + l) (b + m)) h), leb-true (a + l) (b + m) (and-right (leb b a) (leb (a + l) (b + m)) h))
 
 span-between : (a l b m p : ℕ) → spanIn a l b m ≡ true → Between a l p → Between b m p
 span-between a l b m p h i =
-    let u = leb-true b a (and-left (leb b a) (leb (a + l) (b + m)) h) in
-    let v = leb-true (a + l) (b + m) (and-right (leb b a) (leb (a + l) (b + m)) h) in
+    let e = span-ends a l b m h in
+    let u = e .0 in
+    let v = e .1 in
     let x = i .low in
     let y = i .high in
     record { low = omega arith; high = omega arith }
 
 -- the samples of a block that lies inside another are samples of that
-pub lies-samples : (r b : Row) (px py : ℕ) → liesIn r b ≡ true → 0 < inRow r px py → 0 < inRow b px py
+lies-samples : (r b : Row) (px py : ℕ) → liesIn r b ≡ true → 0 < inRow r px py → 0 < inRow b px py
 unfolding liesIn
 lies-samples r b px py h here =
     let i = in-rectangle (r .x) (r .y) (2 ^ r .ew) (2 ^ r .eh) px py here in
@@ -107,11 +111,20 @@ module _ (rows : List Row) (b : Row) where
 
 -- ---- two tables with the same samples, each once
 
-pub has-copies : (px py : ℕ) (rows : List Row) {r : Row} (i : ℕ) → getElem? rows i ≡ some r → 0 < inRow r px py → 0 < copies px py rows
+has-copies : (px py : ℕ) (rows : List Row) {r : Row} (i : ℕ) → getElem? rows i ≡ some r → 0 < inRow r px py → 0 < copies px py rows
 has-copies px py rows i e h = let a = row-dropped px py rows i 0 e (omega arith) in let b = copies-parts px py 0 rows in let c = copies-zero px py rows in omega arith
 
+-- the row of the other table that has a row's corner
+pub other-at : (rows others : List Row) → ((px py : ℕ) → copies px py rows ≡ copies px py others) → (i : ℕ) (r : Row) → getElem? rows i ≡ some r
+    → (j : ℕ) × RowAt (λ b. 0 < inRow b (r .x) (r .y)) others j
+other-at rows others same i r e =
+    let own = own-corner r in
+    let there = has-copies (r .x) (r .y) rows i e (omega arith) in
+    let s = same (r .x) (r .y) in
+    some-row (r .x) (r .y) others (omega arith)
+
 -- a row lies inside a block of the other table
-abbrev pub InBlock : List Row → Row → Type 0
+abbrev InBlock : List Row → Row → Type 0
 InBlock others r = (j : ℕ) × RowAt (λ b. liesIn r b ≡ true) others j
 
 module _ (rows others : List Row) where
@@ -120,14 +133,14 @@ module _ (rows others : List Row) where
       → getElem? rows i ≡ some r → getElem? others j ≡ some b → (px py : ℕ) → 0 < inRow r px py → 0 < inRow b px py → liesIn r b ≡ true
   unfolding finerOrEqual
   finer-of once h {r} {b} i j e f px py here there =
-      let part = union-of rows b (every-of (isUnion rows) others h j f) px py there in
+      let part = union-of rows b (each-of (isUnion rows) others h j f) px py there in
       let same : part .1 .row ≡ r = one-row px py rows (once px py) (part .1 .has .0) here (part .0) i (part .1 .is) e in
       subst (λ q. liesIn q b ≡ true) same (part .1 .has .1)
 
   pub finer-from : ((px py : ℕ) → copies px py others ≤ 1) → ((px py : ℕ) → copies px py rows ≡ copies px py others)
       → ((i : ℕ) (r : Row) → getElem? rows i ≡ some r → InBlock others r) → finerOrEqual rows others ≡ true
   unfolding finerOrEqual
-  finer-from once same f = every-from (isUnion rows) others (λ j b e. union-from rows b (λ px py there. part j b e px py there))
+  finer-from once same f = each-from (isUnion rows) others (λ j b e. union-from rows b (λ px py there. part j b e px py there))
     where
       part : (j : ℕ) (b : Row) → getElem? others j ≡ some b → (px py : ℕ) → 0 < inRow b px py → Part rows b px py
       part j b e px py there =

@@ -55,7 +55,7 @@ pub record PartitionsCompared : Type 0 where
   -- of every unit that passes 1 to 10
   pub trees : (s : Settings) (a : ℕ) → unitRefusal s a ≡ 0 → TreesCompared s a
   -- what is refused, with its number and place, and nothing else; nothing is lent but the tables
-  pub decided : (s : Settings) (a : ℕ) (first second : List ℕ) → Bytes first → Bytes second
+  pub decided : (s : Settings) (a : ℕ) (first second : List ℕ) → Bytes first
       → Decides {Lent = Unit {0}} (CompareFault s a first second) (rowsNumbers settingsNumbers) (compareUnit s a first second) tt tt
   -- "Depths and row order play no part": tables with equal blocks are compared alike, whatever lists of rows they are
   pub blocks : (first first′ second second′ : List Row) → EqualBlocks first first′ → EqualBlocks second second′

@@ -29,8 +29,7 @@ fn after_first(l: Limits, root: Node, first: &[u8], second: &[u8]) -> Answer
     }
 }
 
-// The comparison of two tables, by the root of their unit. Where they are the same, as most are of two encodings that differ
-// little, one test is enough.
+// The comparison of two tables, by the root of their unit. Where they are the same, one test is enough.
 fn compare_rows(l: Limits, root: Node, first: &[u8], second: &[u8]) -> Answer
     requires { ⌜ Tabled (luma l) root ⌝ }
     ensures { λ r. ⌜ r ≡ compareRows (luma l) root (now (first .entry)) (now (second .entry)) ⌝ }

@@ -12,7 +12,7 @@ use lib.Dec.{eqb}
 use lib.ListN.{length, set, take, length-append, length-set}
 use lib.Seq.{take-set-le, take-suc-set}
 use mir.Val.{boolByte}
-use Rattle.sides.proofs.Bools.{clash, and-left, and-right, and-no, or-right, same, same-eq}
+use Rattle.sides.proofs.Bools.{clash, and-left, and-right, and-no, or-right, same, same-eq, or-left}
 use Rattle.tree.specs.declared.Direction.{Direction}
 use Rattle.tree.specs.declared.Direction.the-variants.{Horizontal, Vertical}
 use Rattle.tree.specs.declared.Decision.{Decision}
@@ -119,10 +119,6 @@ quad-flags splits e = rw e
 abbrev pub cutRest : ℕ → Direction → ℕ → Bool → List ℕ
 cutRest splits d other binary = flagByte (has splits 1) false ++ (flagByte (has splits (pick d 20 10)) (pick d false true) ++ flagByte (has splits other) binary)
 
-or-first : (a b : Bool) → a ≡ true → (a || b) ≡ true
-or-first true b e = refl
-or-first false b e = clash e refl
-
 or-none : (a : Bool) → (a || false) ≡ a
 or-none true = refl
 or-none false = refl
@@ -147,7 +143,7 @@ module _ (splits : ℕ) where
       → flagByte (has splits 1 || (flat || steep)) true ++ (flagByte (has splits 1 && (flat || steep)) false ++ (flagByte (flat && steep) (pick d false true) ++ flagByte own binary))
       ≡ (1 ∷ []) ++ (flagByte (has splits 1) false ++ (flagByte (has splits (pick d 20 10)) (pick d false true) ++ flagByte own binary))
   there Horizontal binary own e =
-      let some = or-first flat steep e in
+      let some = or-left flat steep e in
       rw (has-vertical splits, some, or-right (has splits 1) true refl, and-true (has splits 1) true refl, true-and flat steep e)
   there Vertical binary own e =
       let some = or-right flat steep e in
@@ -155,8 +151,8 @@ module _ (splits : ℕ) where
 
   pub binary-flags : (d : Direction) → has splits (binaryMask d) ≡ true → flagsFor (rightsIn false splits) (Binary d) ≡ (1 ∷ []) ++ cutRest splits d (ternaryMask d) true
   unfolding flagsFor
-  binary-flags Horizontal e = there Horizontal true (has splits 2 && has splits 8) (or-first (has splits 2) (has splits 8) e) ∙ rw (true-and (has splits 2) (has splits 8) e)
-  binary-flags Vertical e = there Vertical true (has splits 4 && has splits 16) (or-first (has splits 4) (has splits 16) e) ∙ rw (true-and (has splits 4) (has splits 16) e)
+  binary-flags Horizontal e = there Horizontal true (has splits 2 && has splits 8) (or-left (has splits 2) (has splits 8) e) ∙ rw (true-and (has splits 2) (has splits 8) e)
+  binary-flags Vertical e = there Vertical true (has splits 4 && has splits 16) (or-left (has splits 4) (has splits 16) e) ∙ rw (true-and (has splits 4) (has splits 16) e)
 
   pub ternary-flags : (d : Direction) → has splits (ternaryMask d) ≡ true → flagsFor (rightsIn false splits) (Ternary d) ≡ (1 ∷ []) ++ cutRest splits d (binaryMask d) false
   unfolding flagsFor

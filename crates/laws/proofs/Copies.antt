@@ -1,4 +1,4 @@
--- How many rows of a table contain a sample, by the parts of the table and by single rows.
+-- How many rows of a table contain a sample, by the parts of the table and by single rows, and which row does.
 use Prim.Native.Nat.{ℕ, zero, suc, _+_, _-_, _^_, _≤_, _<_}
 use mathlib.Core.Path.{_≡_, refl, sym, ap, _∙_}
 use mathlib.Core.List.{List, [], _∷_, _++_}

@@ -1,4 +1,4 @@
--- Rows and their bytes: as many rows are read as are asked for, and the bytes of small rows give the rows back.
+-- Rows and their bytes: as many rows are read as are asked for, what holds of all holds of each, and the bytes of small rows give the rows back.
 use Prim.Native.Nat.{ℕ, zero, suc, _+_, _*_, _%_, _≤_, _<_}
 use mathlib.Core.Path.{_≡_, refl, sym, ap, ap₂, _∙_}
 use mathlib.Core.List.{List, _∷_, _++_, append-assoc}

@@ -1,4 +1,4 @@
--- The number of a table's row: its corner, its cells, and that it is a leaf's own exactly where the numbers are equal.
+-- The number of a table's row: its corner, its cells, and that it is a leaf's own, or another table's row, where the numbers are equal.
 use Prim.Native.Nat.{ℕ, _+_, _*_, _/_, _%_, _^_, _<_}
 use mathlib.Core.Path.{_≡_, refl, sym, ap, _∙_}
 use mathlib.Core.Bool.{Bool, true, false}

@@ -30,6 +30,10 @@ pub and-late : (a b : Bool) → (a && b) ≡ false → b ≡ true → a ≡ fals
 and-late true b h k = clash k h
 and-late false b h k = refl
 
+pub or-left : (a b : Bool) → a ≡ true → (a || b) ≡ true
+or-left true b h = refl
+or-left false b h = clash h refl
+
 pub or-right : (a b : Bool) → b ≡ true → (a || b) ≡ true
 or-right true b h = refl
 or-right false b h = h

@@ -8,7 +8,7 @@ use Rattle.tree.specs.declared.Node.{Node}
 use Rattle.tree.specs.declared.Direction.the-variants.{Horizontal, Vertical}
 use Rattle.tree.specs.Splits.{rightOut, bottomOut, openSplits}
 use Rattle.tree.specs.Children.{cornerInside}
-use Rattle.tree.specs.Rows.{rowOf}
+use Rattle.tree.specs.Rows.{Row, rowOf}
 use Rattle.blocks.specs.RowNumbers.{rowWord}
 use Rattle.blocks.proofs.RowNumbers.{word-is}
 use Rattle.laws.specs.Shape.{Shape}
@@ -32,7 +32,7 @@ pub record Six (row x y a b q m : ℕ) : Type 0 where
   pub at-qt : row / 281474976710656 % 256 ≡ q
   pub at-mtt : row / 72057594037927936 % 256 ≡ m
 
-pub unpacked : {x y a b q m : ℕ} → x < 65536 → y < 65536 → a < 8 → b < 8 → q < 256 → m < 256 → (row : ℕ) → row ≡ packed x y a b q m → Six row x y a b q m
+unpacked : {x y a b q m : ℕ} → x < 65536 → y < 65536 → a < 8 → b < 8 → q < 256 → m < 256 → (row : ℕ) → row ≡ packed x y a b q m → Six row x y a b q m
 unpacked hx hy ha hb hq hm row e = record {
   at-x = omega arith;
   at-y = omega arith;
@@ -42,7 +42,21 @@ unpacked hx hy ha hb hq hm row e = record {
   at-mtt = omega arith;
 }
 
--- ---- a node whose numbers fit their places
+-- ---- a row whose numbers fit their places, and such a node
+
+module _ (r : Row) (hx : r .x < 65536) (hy : r .y < 65536) (hw : r .ew < 8) (hh : r .eh < 8) (hq : r .qt < 256) (hm : r .mtt < 256) where
+  packed-row : rowWord r ≡ packed (r .x) (r .y) (r .ew) (r .eh) (r .qt) (r .mtt)
+  packed-row =
+      let x : r .x % 65536 ≡ r .x = omega arith in
+      let y : r .y % 65536 ≡ r .y = omega arith in
+      let w : r .ew % 256 ≡ r .ew = omega arith in
+      let h : r .eh % 256 ≡ r .eh = omega arith in
+      let q : r .qt % 256 ≡ r .qt = omega arith in
+      let m : r .mtt % 256 ≡ r .mtt = omega arith in
+      sym (word-is r) ∙ rw (x, y, w, h, q, m)
+
+  pub row-six : Six (rowWord r) (r .x) (r .y) (r .ew) (r .eh) (r .qt) (r .mtt)
+  row-six = unpacked hx hy hw hh hq hm (rowWord r) packed-row
 
 pub record Fits (n : Node) : Type 0 where
   pub wide : One (n .w)
@@ -54,20 +68,11 @@ pub record Fits (n : Node) : Type 0 where
 
 pub row-packed : {n : Node} → Fits n → rowWord (rowOf n) ≡ packed (n .x) (n .y) (exponent (n .w)) (exponent (n .h)) (n .qt) (n .mtt)
 unfolding rowOf
-row-packed {n} f =
-    let a = exponent-of (f .wide) .small in
-    let b = exponent-of (f .high) .small in
-    let x : n .x % 65536 ≡ n .x = let h = f .x-fits in omega arith in
-    let y : n .y % 65536 ≡ n .y = let h = f .y-fits in omega arith in
-    let w : exponent (n .w) % 256 ≡ exponent (n .w) = omega arith in
-    let h : exponent (n .h) % 256 ≡ exponent (n .h) = omega arith in
-    let q : n .qt % 256 ≡ n .qt = let h = f .qt-fits in omega arith in
-    let m : n .mtt % 256 ≡ n .mtt = let h = f .mtt-fits in omega arith in
-    sym (word-is (rowOf n)) ∙ rw (x, y, w, h, q, m)
+row-packed {n} f = packed-row (rowOf n) (f .x-fits) (f .y-fits) (exponent-of (f .wide) .small) (exponent-of (f .high) .small) (f .qt-fits) (f .mtt-fits)
 
 row-fields : {n : Node} → Fits n → Six (rowWord (rowOf n)) (n .x) (n .y) (exponent (n .w)) (exponent (n .h)) (n .qt) (n .mtt)
-row-fields {n} f =
-    unpacked (f .x-fits) (f .y-fits) (exponent-of (f .wide) .small) (exponent-of (f .high) .small) (f .qt-fits) (f .mtt-fits) (rowWord (rowOf n)) (row-packed f)
+unfolding rowOf
+row-fields {n} f = row-six (rowOf n) (f .x-fits) (f .y-fits) (exponent-of (f .wide) .small) (exponent-of (f .high) .small) (f .qt-fits) (f .mtt-fits)
 
 -- ---- the numbers that stand for a node
 

@@ -140,8 +140,8 @@ fn test_rows(l: Limits, root: Node, rows: &[u8]) -> Answer
     test_walk(l, root, rows)
 }
 
-// The same always by a walk, for calls that do not need the number of the flags: with the question for a leaf, the compiler
-// would take that out of the page and the way back.
+// The same without the short way of a leaf: with one more caller of that the compiler would take it out of the page and the
+// way back, which are slower so (docs/DECISIONS.md).
 pub fn test_table(l: Limits, root: Node, rows: &[u8]) -> Answer
     requires { ⌜ Rooted (luma l) root ⌝ }
     ensures { λ r. ⌜ r ≡ answerOf (testRows (luma l) root (now (rows .entry))) ⌝ }

@@ -156,6 +156,18 @@ fn quads() -> Class {
     .with_others(&[Style::Smallest])
 }
 
+/// The same units, compared with their rows but for the last four blocks, which are joined.
+pub fn near_quads() -> Class {
+    let mut class = Class { title: "1,024 beside 1,021 by quads", ..quads() };
+    for unit in &mut class.units {
+        let (before, last) = unit.rows.split_at(8 * 1_020);
+        // A side of 8, one quad split less.
+        let joined = [&last[..4], &[3, 3, 4, 0]].concat();
+        unit.other = [before, &joined].concat();
+    }
+    class
+}
+
 /// Random units until one is wanted.
 fn random(rng: &mut Rng, styles: &[Style], wanted: impl Fn(&Unit) -> bool) -> Unit {
     loop {

@@ -49,8 +49,10 @@ pub fn print_comparisons() {
     println!(
         "\nThe same rows compared with those of another tree of the unit, of about as many; one"
     );
-    println!("row and the rows by quads with themselves. Nanoseconds, as above.\n");
+    println!("row and the rows by quads with themselves, where one test is enough; and by quads with four");
+    println!("blocks joined. Nanoseconds, as above.\n");
     print_beside_back(Way::Compare);
+    print_line_beside_back(&classes::near_quads(), Way::Compare);
 }
 
 /// A way that `tuned` does not have, beside the engine's way back of the same rows.

@@ -33,7 +33,7 @@ pub mod relatives;
 mod rng;
 pub mod settings;
 pub mod small;
-pub mod tree;
+mod tree;
 pub mod trees;
 
 pub use rng::Rng;

@@ -3,7 +3,7 @@
 use h266::check::unit_root;
 use h266::{Node, Params, Settings, Split};
 
-use crate::tree::{open, Tree};
+use crate::tree::{open, parts, Tree};
 use crate::Rng;
 
 /// What is done to a tree.
@@ -83,8 +83,7 @@ fn split(params: &Params, node: &Node, rng: &mut Rng) -> Option<Tree> {
     }
     let split = rng.pick(&open);
     // The node lies inside the picture, and so do its parts.
-    let parts = node.parts(params, split).into_iter().flatten();
-    Some(Tree::Split(split, parts.map(|_| Tree::Leaf).collect()))
+    Some(Tree::Split(split, parts(params, node, split).map(|_| Tree::Leaf).collect()))
 }
 
 /// A node in the same quarters by other splits.

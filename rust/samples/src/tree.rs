@@ -14,7 +14,7 @@ pub enum Tree {
 }
 
 /// The nodes of the parts of a split.
-fn parts(params: &Params, node: &Node, split: Split) -> impl Iterator<Item = Node> {
+pub(crate) fn parts(params: &Params, node: &Node, split: Split) -> impl Iterator<Item = Node> {
     node.parts(params, split).into_iter().flatten()
 }
 

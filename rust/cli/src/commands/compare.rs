@@ -3,7 +3,7 @@
 use std::io::{self, Write};
 use std::mem;
 
-use colwythar::compare;
+use colwythar::{compare, Settings};
 
 use super::{Command, Context, Drawing, Entry, Unit};
 use crate::pairs::{pairs, Given, Pair};
@@ -29,8 +29,8 @@ struct Compare {
 /// What a file gives.
 #[derive(Default)]
 struct File {
-    /// Its picture, once the settings are accepted.
-    picture: Option<Picture>,
+    /// Its settings, once they are accepted.
+    settings: Option<Settings>,
     units: Vec<Given>,
 }
 
@@ -42,11 +42,9 @@ impl Command for Compare {
 
     /// The engine compares tables in H.266 only, and those of one picture.
     fn objection(&self, picture: &Picture) -> Option<Reason> {
-        if matches!(picture, Picture::H265(_)) {
-            return Some(Reason::NoComparison);
-        }
-        let other = |file: &File| file.picture.is_some_and(|other| other != *picture);
-        self.files.iter().any(other).then_some(Reason::OtherPicture)
+        let Picture::H266(settings) = picture else { return Some(Reason::NoComparison) };
+        let other = |file: &File| file.settings.is_some_and(|other| other != *settings);
+        self.files.iter().any(other).then_some(Reason::OtherSettings)
     }
 
     fn picture(
@@ -55,8 +53,8 @@ impl Command for Compare {
         accepted: bool,
         _: &mut Context<'_>,
     ) -> io::Result<()> {
-        if let Some(file) = self.files.last_mut() {
-            file.picture = accepted.then_some(*picture);
+        if let (Picture::H266(settings), Some(file)) = (picture, self.files.last_mut()) {
+            file.settings = accepted.then_some(*settings);
         }
         Ok(())
     }
@@ -72,15 +70,15 @@ impl Command for Compare {
         output::say_complaint(complaint, context)
     }
 
-    /// Nothing is compared where a file has no picture, which has been said.
+    /// Nothing is compared where a file has no accepted settings, which has been said.
     fn finish(&mut self, out: &mut dyn Write) -> io::Result<bool> {
         let [first, second] = &mut self.files[..] else { return Ok(true) };
-        let (Some(picture), Some(_)) = (first.picture, second.picture) else { return Ok(true) };
+        let (Some(settings), Some(_)) = (first.settings, second.settings) else { return Ok(true) };
         let units = pairs(mem::take(&mut first.units), mem::take(&mut second.units));
-        let comparison = self.comparison.insert(svg::Comparison::new(&picture));
+        let comparison = self.comparison.insert(svg::Comparison::new(&settings));
         let mut accepted = true;
         for unit in units {
-            accepted &= say(unit, &picture, comparison, out)?;
+            accepted &= say(unit, &settings, comparison, out)?;
         }
         Ok(accepted)
     }
@@ -93,12 +91,12 @@ impl Command for Compare {
 /// Says which table of a unit is finer, or which file alone has one. Answers whether both have.
 fn say(
     Pair { address, tables }: Pair,
-    picture: &Picture,
+    settings: &Settings,
     comparison: &mut svg::Comparison,
     out: &mut dyn Write,
 ) -> io::Result<bool> {
     let file = if tables[0].is_some() { "first" } else { "second" };
-    let (Picture::H266(settings), [Some(first), Some(second)]) = (picture, tables) else {
+    let [Some(first), Some(second)] = tables else {
         writeln!(out, "unit {address}: accepted in the {file} file only")?;
         return Ok(false);
     };

@@ -3,7 +3,7 @@
 
 use std::io::{self, Write};
 
-use colwythar::Finer;
+use colwythar::{Finer, Settings};
 
 use super::{display_scale, seen, write_grid, write_ground, write_head, GAP};
 use crate::edges::{of_table, path};
@@ -40,9 +40,8 @@ struct Unit {
 }
 
 impl Comparison {
-    /// A picture without units. The settings are accepted ones.
-    pub fn new(picture: &crate::Picture) -> Self {
-        let ((ctu, _), (width, height)) = (picture.sides(), picture.size());
+    /// A picture of these settings, which are accepted ones, without units.
+    pub fn new(&Settings { ctu, width, height, .. }: &Settings) -> Self {
         Self { ctu, width, height, units: Vec::new() }
     }
 

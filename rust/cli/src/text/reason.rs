@@ -35,8 +35,8 @@ pub enum Reason {
     NoPage,
     /// A picture in H.265, whose tables are not compared.
     NoComparison,
-    /// Another picture than that of the file with which this one is compared.
-    OtherPicture,
+    /// Other settings than those of the file with which this one is compared.
+    OtherSettings,
     /// A number of a picture that needs more than 32 bits.
     PictureLarge,
     /// No number after `unit`.
@@ -134,7 +134,7 @@ impl fmt::Display for Reason {
             Self::Second => "a second picture line; a file has one",
             Self::NoPage => "there is no page of a picture in H.265",
             Self::NoComparison => "tables of a picture in H.265 are not compared",
-            Self::OtherPicture => "another picture than that of the first file",
+            Self::OtherSettings => "other settings than those of the first file",
             Self::Address => "a number is expected after \"unit\"",
             Self::AddressLarge => "a unit's address is at most 4294967295",
             Self::NoColon => "a colon is expected after the unit's address",

@@ -119,7 +119,7 @@ fn a_malformed_line_is_said() {
 
 #[test]
 fn other_pictures() {
-    let other = said("line 2: another picture than that of the first file");
+    let other = said("line 2: other settings than those of the first file");
     let wider = format!("# wider\n{}{WHOLE}", TWO.replace("64 32", "96 32"));
     let ran = compare_files("wider.txt", &format!("{TWO}{WHOLE}"), &wider);
     assert_eq!(ran, Ran::failed(1, &other));
@@ -137,7 +137,7 @@ fn files_without_a_picture() {
     let refused = said("line 1: refusal 1: the CTU side is not 32, 64 or 128");
     let ran = compare_files("bad-picture.txt", P1, "picture 48 4 8 3 32 32 64 64\n");
     // Another picture, before its settings are looked at.
-    assert_eq!(ran, Ran::failed(1, &said("line 1: another picture than that of the first file")));
+    assert_eq!(ran, Ran::failed(1, &said("line 1: other settings than those of the first file")));
     let p1 = sample("p1.txt");
     let p1 = p1.to_str().expect("a name");
     let ran = run_with(&["compare", "-", p1], b"picture 48 4 8 3 32 32 64 64\n");

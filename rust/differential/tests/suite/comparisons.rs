@@ -74,9 +74,9 @@ fn full(rng: &mut Rng, settings: &Settings) -> Vec<u8> {
     rows
 }
 
-/// Tables of the same 1,024 blocks in other orders; and with two blocks joined at each place.
+/// Tables of the same 1,024 blocks in other orders; and with four blocks joined, at each place in turn.
 #[test]
-fn each_row_of_1024() {
+fn tables_of_1024_rows() {
     let (mut engine, mut rng) = (H266::default(), Rng::new(120));
     let settings = [128, 4, 8, 10, 128, 64, 128, 128];
     let [first, second] = [0; 2].map(|_| full(&mut rng, &settings));
