@@ -14,8 +14,8 @@
  *
  * An answer is two numbers. answer[0] is COLWYTHAR_ACCEPTED, which is 0, where the call is accepted, else the number of
  * the refusal, which is never 0; answer[1] is the count of rows, flags, units or bytes of a page, or which of two tables is
- * finer, or the refusal's place, 0 where none is named below. A refused call leaves every buffer and the due address as they were; an accepted one leaves
- * the bytes past its answer as they were.
+ * finer, or the refusal's place, 0 where none is named below. A refused call leaves every buffer and the due address as
+ * they were; an accepted one leaves the bytes past its answer as they were.
  *
  * What the caller must see to: pointers are not null, also where their length is 0, and point to as much as their
  * type or length says; what is written to (rows, flags or page, due, answer) overlaps nothing else that is passed.
