@@ -26,7 +26,7 @@ use Rattle.unit.proofs.Accepts.{answer-stops, answer-goes}
 use Rattle.unit.proofs.Located.{found}
 use Rattle.unit.proofs.Luma.{luma-sound, usable}
 use Rattle.unit.proofs.Sound.{Sound, root-of}
-use Rattle.unit.proofs.Tested.{unit-tested, passes}
+use Rattle.unit.proofs.Tested.{Passed, unit-tested, passes}
 use Rattle.walks.proofs.UnitRoots.{usable-checked, found-rooted}
 use Rattle.compare.specs.declared.finer.Finer.the-variants.{Equal}
 use Rattle.compare.specs.Finer.{comparison, finerNumber}
@@ -95,17 +95,17 @@ module _ {k : Kind} {root : Node} (tabled : Tabled k root) (first second : List 
       let e = finer-self (rowsIn first) (c .one .once) in
       both-accepted k root first second p (record { flags = p .flags; answer = ap answerOf same-test ∙ p .answer }) ∙ rw (← same, e)
 
-pub turned : {rows others : List Row} → Comparable rows others → Comparable others rows
-turned c = record { one = c .other; other = c .one; same = λ px py. sym (c .same px py) }
-
 -- ---- a unit that was looked for
 
-module _ {us : Units} (law : Sound us) (a : ℕ) (h : refusalIn us a ≡ 0) where
-  unit-comparable : (first second : List ℕ) → Passes (us .kind) (rootIn us a) first → Passes (us .kind) (rootIn us a) second → Comparable (rowsIn first) (rowsIn second)
-  unit-comparable first second p q =
-      let t = passes law a first (ap answerOf (unit-tested law a h first) ∙ p .answer) in
-      let u = passes law a second (ap answerOf (unit-tested law a h second) ∙ q .answer) in
-      rw (t .rows, u .rows) at (trees-comparable (root-of law a h) (t .tree) (u .tree))
+module _ {us : Units} (law : Sound us) (a : ℕ) where
+  -- tables that pass have the same samples, each once
+  pub passed-comparable : {first second : List ℕ} → Passed us a first → Passed us a second → Comparable (rowsIn first) (rowsIn second)
+  passed-comparable t u = rw (t .rows, u .rows) at (trees-comparable (root-of law a (t .there)) (t .tree) (u .tree))
+
+  unit-comparable : refusalIn us a ≡ 0 → (first second : List ℕ) → Passes (us .kind) (rootIn us a) first → Passes (us .kind) (rootIn us a) second
+      → Comparable (rowsIn first) (rowsIn second)
+  unit-comparable h first second p q =
+      passed-comparable (passes law a first (ap answerOf (unit-tested law a h first) ∙ p .answer)) (passes law a second (ap answerOf (unit-tested law a h second) ∙ q .answer))
 
 module _ (s : Settings) (a : ℕ) {at : Located} (e : at ≡ locatedIn (unitsOf s) a) where
   pub none-compared : {number : ℕ} → at ≡ unit.Refused number → (first second : List ℕ) → Refused number 0 ≡ compareUnit s a first second

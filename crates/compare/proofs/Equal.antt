@@ -56,8 +56,11 @@ same-samples e px py = rw (e .left, e .top, e .wide, e .high)
 
 -- ---- equal blocks, of tables with the same samples, each once
 
+pub turned : {rows others : List Row} → Comparable rows others → Comparable others rows
+turned c = record { one = c .other; other = c .one; same = λ px py. sym (c .same px py) }
+
 module _ {rows others : List Row} (c : Comparable rows others) where
-  pub blocks-of : finerOrEqual rows others ≡ true → finerOrEqual others rows ≡ true → BlocksOf rows others
+  blocks-of : finerOrEqual rows others ≡ true → finerOrEqual others rows ≡ true → BlocksOf rows others
   blocks-of f g i r e =
       let own = own-corner r in
       let found = other-at rows others (c .same) i r e in
@@ -71,6 +74,9 @@ module _ {rows others : List Row} (c : Comparable rows others) where
       let found = f i r e in
       let b = found .1 .row in
       (found .0, record { row = b; is = found .1 .is; has = same-lies (found .1 .has) b ∙ lies-self b }))
+
+pub equal-blocks : {rows others : List Row} → Comparable rows others → finerOrEqual rows others ≡ true → finerOrEqual others rows ≡ true → EqualBlocks rows others
+equal-blocks c f g = record { there = blocks-of c f g; back = blocks-of (turned c) g f }
 
 pub is-equal : (a b : Bool) → finerBy a b ≡ Equal → (a ≡ true) × (b ≡ true)
 is-equal true true e = (refl, refl)

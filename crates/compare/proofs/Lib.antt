@@ -2,7 +2,9 @@ pub mod Passing
 pub mod Several
 pub mod Unions
 pub mod Equal
+pub mod Through
 pub mod Corners
 pub mod Trees
 pub mod Calls
 pub mod PartitionsCompared
+pub mod LawsOfFiner

@@ -6,7 +6,7 @@ use mathlib.Core.Logic.{_↔_}
 use Rattle.settings.specs.declared.Settings.{Settings}
 use Rattle.settings.specs.Faults.{settingsNumbers}
 use Rattle.settings.specs.Units.{unitRefusal}
-use Rattle.tree.specs.Rows.{Row, tableBytes}
+use Rattle.tree.specs.Rows.{Row, rowsIn, tableBytes}
 use Rattle.tree.specs.Run.{goes, stops}
 use Rattle.tree.specs.Tree.{rowsOf}
 use Rattle.laws.specs.Geometry.{span}
@@ -27,9 +27,9 @@ use Rattle.compare.specs.Finer.{everyRow, someRow, everyBelow, liesIn, i
 use Rattle.compare.specs.Blocks.{EqualBlocks}
 use Rattle.compare.specs.Compare.{compareUnit}
 use Rattle.compare.specs.PartitionsCompared.{CompareFault, first-table, second-table, TreesCompared, PartitionsCompared}
-use Rattle.compare.proofs.Equal.{blocks-of, finer-blocks, is-equal, same-comparison}
+use Rattle.compare.proofs.Equal.{turned, equal-blocks, finer-blocks, is-equal, same-comparison}
 use Rattle.compare.proofs.Trees.{trees-comparable}
-use Rattle.compare.proofs.Calls.{located-first, located-second, located-both, turned}
+use Rattle.compare.proofs.Calls.{located-first, located-second, located-both}
 
 -- ---- the call, by what the two tests end with
 
@@ -41,11 +41,19 @@ module _ (s : Settings) (a : ℕ) (first second : List ℕ) where
       → compareUnit s a first second ≡ Refused number place
   second-ends e f = located-second (unitsOf s .kind) first second (locatedIn (unitsOf s) a) e f
 
-  both-pass : (p : Passed (unitsOf s) a first) (q : Passed (unitsOf s) a second)
-      → compareUnit s a first second ≡ Accepted (finerNumber (comparison (rowsOf (p .tree)) (rowsOf (q .tree))))
+  pub both-pass : Passed (unitsOf s) a first → Passed (unitsOf s) a second
+      → compareUnit s a first second ≡ Accepted (finerNumber (comparison (rowsIn first) (rowsIn second)))
   both-pass p q =
       located-both (unitsOf s .kind) first second (locatedIn (unitsOf s) a) (ap (λ r. r .end) (p .gives-flags)) (ap (λ r. r .end) (q .gives-flags))
-      ∙ rw (← (p .rows), ← (q .rows))
+
+  -- only tables that pass are compared
+  pub both-passed : {m : ℕ} → compareUnit s a first second ≡ Accepted m → Passed (unitsOf s) a first × Passed (unitsOf s) a second
+  both-passed e = go (tested (luma-sound s) a first) (tested (luma-sound s) a second)
+    where
+      go : Tested (unitsOf s) a first → Tested (unitsOf s) a second → Passed (unitsOf s) a first × Passed (unitsOf s) a second
+      go (faulty f w) _ = let g = first-ends w in never (cc)
+      go (passed t) (faulty f w) = let g = second-ends (ap (λ r. r .end) (t .gives-flags)) w in never (cc)
+      go (passed t) (passed u) = (t, u)
 
   -- ---- what is refused
 
@@ -92,28 +100,19 @@ module _ (s : Settings) (a : ℕ) (h : unitRefusal s a ≡ 0) where
   only : (first second : List ℕ) → Bytes first → Bytes second → (m : ℕ) → compareUnit s a first second ≡ Accepted m
       → (t u : UnitTree (unitsOf s) a) × (tableBytes (rowsOf t) ≡ first) × (tableBytes (rowsOf u) ≡ second)
       × (finerNumber (comparison (rowsOf t) (rowsOf u)) ≡ m)
-  only first second small small₁ m e = go (tested (luma-sound s) a first) (tested (luma-sound s) a second)
-    where
-      go : Tested (unitsOf s) a first → Tested (unitsOf s) a second
-          → (t u : UnitTree (unitsOf s) a) × (tableBytes (rowsOf t) ≡ first) × (tableBytes (rowsOf u) ≡ second)
-          × (finerNumber (comparison (rowsOf t) (rowsOf u)) ≡ m)
-      go (faulty f w) _ = let g = first-ends s a first second w in never (cc)
-      go (passed t) (faulty f w) = let g = second-ends s a first second (ap (λ r. r .end) (t .gives-flags)) w in never (cc)
-      go (passed t) (passed u) =
-          let g : Accepted (finerNumber (comparison (rowsOf (t .tree)) (rowsOf (u .tree)))) ≡ Accepted m = sym (both-pass s a first second t u) ∙ e in
-          (t .tree, u .tree, table-of (luma-sound s) a first small t, table-of (luma-sound s) a second small₁ u, cc)
+  only first second small small₁ m e =
+      let both = both-passed s a first second e in
+      let t = both .0 in
+      let u = both .1 in
+      let g : Accepted (finerNumber (comparison (rowsIn first) (rowsIn second))) ≡ Accepted m = sym (both-pass s a first second t u) ∙ e in
+      let h : finerNumber (comparison (rowsIn first) (rowsIn second)) ≡ m = cc in
+      (t .tree, u .tree, table-of (luma-sound s) a first small t, table-of (luma-sound s) a second small₁ u, rw (← (t .rows), ← (u .rows)) at h)
 
   equal : (t u : UnitTree (unitsOf s) a) → (comparison (rowsOf t) (rowsOf u) ≡ Equal) ↔ EqualBlocks (rowsOf t) (rowsOf u)
   equal t u =
-      let c = trees-comparable (root-of (luma-sound s) a h) t u in
-      let d = turned c in (
-        λ e.
-            let both = is-equal (finerOrEqual (rowsOf t) (rowsOf u)) (finerOrEqual (rowsOf u) (rowsOf t)) e in
-            record {
-              there = blocks-of c (both .0) (both .1);
-              back = blocks-of d (both .1) (both .0);
-            },
-        λ e. rw (finer-blocks c (e .there), finer-blocks d (e .back)),
+      let c = trees-comparable (root-of (luma-sound s) a h) t u in (
+        λ e. let both = is-equal (finerOrEqual (rowsOf t) (rowsOf u)) (finerOrEqual (rowsOf u) (rowsOf t)) e in equal-blocks c (both .0) (both .1),
+        λ e. rw (finer-blocks c (e .there), finer-blocks (turned c) (e .back)),
       )
 
   trees : TreesCompared s a

@@ -29,6 +29,9 @@ module _ (r : Row) (px py : ℕ) where
 pub span-ends : (a l b m : ℕ) → spanIn a l b m ≡ true → (b ≤ a) × (a + l ≤ b + m)
 span-ends a l b m h = (leb-true b a (and-left (leb b a) (leb (a + l) (b + m)) h), leb-true (a + l) (b + m) (and-right (leb b a) (leb (a + l) (b + m)) h))
 
+pub span-from : (a l b m : ℕ) → b ≤ a → a + l ≤ b + m → spanIn a l b m ≡ true
+span-from a l b m low high = and-intro (leb b a) (leb (a + l) (b + m)) (le-leb b a low) (le-leb (a + l) (b + m) high)
+
 span-between : (a l b m p : ℕ) → spanIn a l b m ≡ true → Between a l p → Between b m p
 span-between a l b m p h i =
     let e = span-ends a l b m h in
@@ -124,7 +127,7 @@ other-at rows others same i r e =
     some-row (r .x) (r .y) others (omega arith)
 
 -- a row lies inside a block of the other table
-abbrev InBlock : List Row → Row → Type 0
+abbrev pub InBlock : List Row → Row → Type 0
 InBlock others r = (j : ℕ) × RowAt (λ b. liesIn r b ≡ true) others j
 
 module _ (rows others : List Row) where
@@ -157,12 +160,10 @@ module _ (rows others : List Row) where
 
 pub lies-self : (r : Row) → liesIn r r ≡ true
 unfolding liesIn
-lies-self r = rw (
-  le-leb (r .x) (r .x) (omega arith),
-  le-leb (r .x + 2 ^ r .ew) (r .x + 2 ^ r .ew) (omega arith),
-  le-leb (r .y) (r .y) (omega arith),
-  le-leb (r .y + 2 ^ r .eh) (r .y + 2 ^ r .eh) (omega arith),
-)
+lies-self r = and-intro _ _ (self (r .x) (2 ^ r .ew)) (self (r .y) (2 ^ r .eh))
+  where
+    self : (a l : ℕ) → spanIn a l a l ≡ true
+    self a l = span-from a l a l (omega arith) (omega arith)
 
 pub finer-self : (rows : List Row) → ((px py : ℕ) → copies px py rows ≤ 1) → finerOrEqual rows rows ≡ true
 finer-self rows once = finer-from rows rows once (λ px py. refl) (λ i r e. (i, record { row = r; is = e; has = lies-self r }))

@@ -5,7 +5,8 @@ use Rattle.tree.specs.Kind.{luma}
 use Rattle.unit.specs.declared.Answer.the-variants.{Accepted}
 use Rattle.compare.specs.Finer.{finerBy, finerNumber}
 use Rattle.compare.specs.Tests.{Passes}
-use Rattle.compare.proofs.Calls.{second-refused, both-accepted, turned}
+use Rattle.compare.proofs.Equal.{turned}
+use Rattle.compare.proofs.Calls.{second-refused, both-accepted}
 use Rattle.compare.proofs.after_first.Statement.{statement}
 use Rattle.compare.proofs.after_first.Tie as tie
 
