@@ -67,7 +67,11 @@ extern "C" {
 #define COLWYTHAR_LINE_BYTES 33
 #define COLWYTHAR_MAX_PAGE_BYTES 33792
 
-/* Which of two tables of a unit is finer, as colwythar_compare answers it. */
+/* Which of two tables of a unit is finer, as colwythar_compare answers it. Proved of the tables that it accepts with the same
+ * settings and address, so that comparisons can be left out: any two are accepted together; a table and itself have equal
+ * blocks; where a first table is finer than a second or equal, and the second than a third, the first is finer than the third
+ * or equal; where each of two is finer than the other or equal, the answer is COLWYTHAR_EQUAL_BLOCKS; with the tables
+ * exchanged, first finer and second finer are exchanged, and the other two answers stay. */
 #define COLWYTHAR_EQUAL_BLOCKS  0 /* the two have the same rectangles */
 #define COLWYTHAR_FIRST_FINER   1 /* every block of the second is a union of blocks of the first, not the other way round */
 #define COLWYTHAR_SECOND_FINER  2 /* every block of the first is a union of blocks of the second, not the other way round */

@@ -7,11 +7,21 @@ use crate::{raw, Refusal, Settings};
 /// Which of two tables of a unit is finer. A table is finer where every block of the other is a union
 /// of its blocks, and the blocks are not equal; depths and the order of rows play no part.
 ///
+/// Proved of the tables of a unit that [`compare`] accepts, so that comparisons can be left out:
+/// - any two of them are accepted together;
+/// - a table and itself are [`Finer::Equal`];
+/// - where a first table is finer than a second or equal, and the second than a third, the first is
+///   finer than the third or equal ([`Finer::is_finer_or_equal`]);
+/// - where each of two is finer than the other or equal, they have the same rectangles, and the answer
+///   is [`Finer::Equal`];
+/// - the tables in the other order give the answer [`Finer::mirrored`].
+///
 /// ```
 /// use colwythar::Finer;
 ///
 /// assert_eq!(Finer::First.to_string(), "first finer");
 /// assert_eq!(Finer::First.mirrored(), Finer::Second);
+/// assert!(Finer::Equal.is_finer_or_equal());
 /// ```
 #[derive(Clone, Copy, Debug, PartialEq, Eq, Hash)]
 pub enum Finer {
@@ -35,6 +45,11 @@ impl Finer {
             // The engine answers no number above 3.
             _ => Self::Neither,
         }
+    }
+
+    /// Is the first table finer than the second, or equal?
+    pub fn is_finer_or_equal(self) -> bool {
+        matches!(self, Self::Equal | Self::First)
     }
 
     /// The same of the two tables in the other order.
@@ -61,7 +76,8 @@ impl fmt::Display for Finer {
 /// Says which of two tables of a unit is finer, if one is.
 ///
 /// A refusal does not say which table it is about. The first is tested first, so 15, 27, 28 and 16 are
-/// about the first exactly where it is also refused beside itself.
+/// about the first exactly where it is also refused beside itself. What follows from some answers for
+/// others, without a call, stands at [`Finer`].
 ///
 /// ```
 /// use colwythar::{compare, Finer, Settings};

@@ -27,8 +27,7 @@ impl<S: Coding> Engine<S> {
         let input = || format!("compare {s:?}, unit {at}, {first:?}, {second:?}");
         match answer {
             (0, finer) => {
-                let mirrored = [0, 2, 1, 3][finer as usize];
-                assert_eq!(exchanged, (0, mirrored), "not the mirror image: {}", input());
+                assert_eq!(exchanged, (0, mirrored(finer)), "not the mirror image: {}", input());
             }
             _ => assert_ne!(exchanged.0, 0, "refused in one order only: {}", input()),
         }
@@ -60,6 +59,11 @@ impl<S: Coding> Engine<S> {
         self.tally.count_comparison(answer);
         answer
     }
+}
+
+/// The answer for the same tables in the other order.
+pub(crate) fn mirrored(finer: u64) -> u64 {
+    [0, 2, 1, 3][finer as usize]
 }
 
 /// The engine's refusal of a table, by its way back into a buffer that is never too short.

@@ -5,7 +5,7 @@ use samples::relatives::Change;
 use samples::Rng;
 
 use crate::calls::{legal, Unit};
-use crate::{Coding, Engine};
+use crate::{Answers, Coding, Engine};
 
 /// Compares two tables, where the coding has comparisons.
 pub fn beside<S: Coding>(
@@ -22,7 +22,7 @@ pub fn beside<S: Coding>(
 }
 
 /// The table of a legal unit beside itself, beside an empty one, and beside that of an independent tree;
-/// and trees of the unit before and after each change.
+/// and trees of the unit before and after each change, some after a second one, too.
 pub(crate) fn others<S: Coding>(engine: &mut Engine<S>, rng: &mut Rng, unit: &Unit<S>) {
     if S::COMPARISONS.is_empty() {
         return;
@@ -36,6 +36,10 @@ pub(crate) fn others<S: Coding>(engine: &mut Engine<S>, rng: &mut Rng, unit: &Un
     for change in Change::ALL {
         changed(engine, rng, settings, *address, change);
     }
+    if rng.percent(25) {
+        let changes = [0; 2].map(|_| rng.pick(&Change::ALL));
+        changed_twice(engine, rng, settings, *address, changes);
+    }
 }
 
 /// The tables of a random tree before and after a change; as far as the change says which is finer,
@@ -47,28 +51,28 @@ pub fn changed<S: Coding>(
     address: u64,
     change: Change,
 ) -> bool {
-    let Some([first, second]) = settings.related(address, rng, change) else { return false };
-    let (number, finer) = engine.compare(rng, settings, address, &first, &second);
+    let Some(tables) = settings.related(address, rng, &[change]) else { return false };
+    let [first, second] = &tables[..] else { panic!("two tables") };
+    let (number, finer) = engine.compare(rng, settings, address, first, second);
     let expected = change.answer().unwrap_or(finer);
     assert_eq!((number, finer), (0, expected), "{change:?}: {settings:?} {first:?} {second:?}");
     true
 }
 
-/// Every two of these tables of a unit, and each beside itself.
-pub(crate) fn all_pairs<S: Coding>(
+/// The tables of a random tree before two changes, between them and after them, each compared with each;
+/// as far as the changes say which of the first and the last is finer, the answer is asserted. Answers
+/// nothing where the tree could not be changed so.
+pub fn changed_twice<S: Coding>(
     engine: &mut Engine<S>,
     rng: &mut Rng,
     settings: &S,
     address: u64,
-    tables: &[&[u8]],
-) {
-    if S::COMPARISONS.is_empty() {
-        return;
-    }
-    for (at, first) in tables.iter().enumerate() {
-        for second in &tables[at..] {
-            let (number, _) = engine.compare(rng, settings, address, first, second);
-            assert_eq!(number, 0, "{settings:?}, unit {address}, {first:?}, {second:?}");
-        }
-    }
+    [one, other]: [Change; 2],
+) -> Option<Answers> {
+    let tables = settings.related(address, rng, &[one, other])?;
+    let tables: Vec<&[u8]> = tables.iter().map(Vec::as_slice).collect();
+    let answers = Answers::of(engine, rng, settings, address, &tables);
+    let expected = one.answer_with(other).or(answers.of_ends());
+    assert_eq!(answers.of_ends(), expected, "{one:?}, {other:?}: {settings:?} {tables:?}");
+    Some(answers)
 }

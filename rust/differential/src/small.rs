@@ -6,7 +6,7 @@ use samples::brute::{all_trees, tables, Beginnings, Trees};
 use samples::{damage, Rng};
 
 use crate::calls::ROOM;
-use crate::{comparisons, pages, Coding, Engine};
+use crate::{pages, Answers, Coding, Engine};
 
 /// The most trees of a unit whose tables are all compared with each other.
 const PAIRED: usize = 60;
@@ -31,8 +31,8 @@ pub fn unit<S: Coding>(
     let trees = all_trees(limit, read).expect("as many trees on both sides");
     assert!(trees == expected, "other trees: {settings:?}, unit {address}");
     way_back(engine, rng, settings, address, &trees);
-    if trees.len() <= PAIRED {
-        comparisons::all_pairs(engine, rng, settings, address, &tables(&trees));
+    if !S::COMPARISONS.is_empty() && trees.len() <= PAIRED {
+        Answers::of(engine, rng, settings, address, &tables(&trees));
     }
     Some(trees.len())
 }

@@ -34,6 +34,15 @@ impl Change {
         }
     }
 
+    /// The same of the tables before this change and after another that follows it, by R-11's laws:
+    /// nothing where one of the two is open, or they make the table finer and coarser.
+    pub fn answer_with(self, next: Self) -> Option<u64> {
+        match (self.answer()?, next.answer()?) {
+            (0, answer) | (answer, 0) => Some(answer),
+            (one, other) => (one == other).then_some(one),
+        }
+    }
+
     /// What becomes of the tree of a node; nothing where this change is not possible there.
     fn of(self, params: &Params, node: &Node, tree: &Tree, rng: &mut Rng) -> Option<Tree> {
         match self {
@@ -46,8 +55,8 @@ impl Change {
     }
 }
 
-/// The tables of a random tree of this unit before and after the change at a random node; nothing
-/// where no node of the tree can be changed so.
+/// The tables of a random tree of this unit, as it was and after each of these changes in turn, each at
+/// a random node; nothing where no node of the tree can be changed so.
 ///
 /// # Panics
 ///
@@ -56,17 +65,23 @@ pub fn tables(
     rng: &mut Rng,
     settings: &Settings,
     address: u64,
-    change: Change,
-) -> Option<[Vec<u8>; 2]> {
+    changes: &[Change],
+) -> Option<Vec<Vec<u8>>> {
     let (params, root) = unit_root(settings, address).expect("a unit of the picture");
     let mut tree = grow(&params, &root, rng);
-    let before = tree.table(&params, &root);
-    let from = rng.below(tree.nodes());
-    let mut changed =
-        |from| tree.change(&params, &root, from, |tree, node| change.of(&params, node, tree, rng));
-    // From a random node on, else from the root on.
-    let changed = changed(from) || changed(0);
-    changed.then(|| [before, tree.table(&params, &root)])
+    let mut tables = vec![tree.table(&params, &root)];
+    for change in changes {
+        let from = rng.below(tree.nodes());
+        let mut changed = |from| {
+            tree.change(&params, &root, from, |tree, node| change.of(&params, node, tree, rng))
+        };
+        // From a random node on, else from the root on.
+        if !changed(from) && !changed(0) {
+            return None;
+        }
+        tables.push(tree.table(&params, &root));
+    }
+    Some(tables)
 }
 
 /// A random tree, with few leaves or many.

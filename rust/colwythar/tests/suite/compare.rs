@@ -129,8 +129,16 @@ fn the_most_rows() {
     refused(&settings, 0, &whole, &longer, Refusal { number: 28, place: 1_024 });
 }
 
+/// In the order of their numbers.
+const ANSWERS: [Finer; 4] = [Finer::Equal, Finer::First, Finer::Second, Finer::Neither];
+
 #[test]
 fn words() {
-    let words = [Finer::Equal, Finer::First, Finer::Second, Finer::Neither].map(|f| f.to_string());
+    let words = ANSWERS.map(|finer| finer.to_string());
     assert_eq!(words, ["equal blocks", "first finer", "second finer", "neither finer"]);
+}
+
+#[test]
+fn finer_or_equal() {
+    assert_eq!(ANSWERS.map(Finer::is_finer_or_equal), [true, true, false, false]);
 }

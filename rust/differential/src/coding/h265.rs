@@ -72,7 +72,7 @@ impl Coding for h265::Settings {
         quads::lawless_rows(self, address, rng)
     }
 
-    fn related(&self, _: u64, _: &mut Rng, _: Change) -> Option<[Vec<u8>; 2]> {
+    fn related(&self, _: u64, _: &mut Rng, _: &[Change]) -> Option<Vec<Vec<u8>>> {
         None
     }
 }

@@ -72,7 +72,7 @@ impl Coding for h266::Settings {
         trees::lawless_rows(self, address, rng)
     }
 
-    fn related(&self, address: u64, rng: &mut Rng, change: Change) -> Option<[Vec<u8>; 2]> {
-        relatives::tables(rng, self, address, change)
+    fn related(&self, address: u64, rng: &mut Rng, changes: &[Change]) -> Option<Vec<Vec<u8>>> {
+        relatives::tables(rng, self, address, changes)
     }
 }

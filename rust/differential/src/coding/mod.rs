@@ -70,9 +70,9 @@ pub trait Coding: Copy + Debug + Sized + 'static {
     fn flags(&self, address: u64, rng: &mut Rng, style: Self::Style) -> Vec<u8>;
     /// The rows of a tree that breaks a rule somewhere.
     fn lawless_rows(&self, address: u64, rng: &mut Rng) -> Vec<u8>;
-    /// The tables of a random tree before and after a change, if the coding has comparisons and the
-    /// tree can be changed so.
-    fn related(&self, address: u64, rng: &mut Rng, change: Change) -> Option<[Vec<u8>; 2]>;
+    /// The tables of a random tree, as it was and after each of these changes in turn, if the coding has
+    /// comparisons and the tree can be changed so.
+    fn related(&self, address: u64, rng: &mut Rng, changes: &[Change]) -> Option<Vec<Vec<u8>>>;
 
     /// The flags of a random tree of any kind.
     fn any_flags(&self, address: u64, rng: &mut Rng) -> Vec<u8> {

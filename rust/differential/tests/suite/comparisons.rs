@@ -29,6 +29,27 @@ fn trees_that_one_change_tells_apart() {
     assert!(engine.tally.finer().iter().all(|&times| times >= 500), "{}", engine.tally);
 }
 
+/// Trees of random units before, between and after every two changes: each pair in both orders, and the
+/// laws of finer.
+#[test]
+fn trees_that_two_changes_tell_apart() {
+    let (mut engine, mut rng) = (H266::default(), Rng::new(122));
+    let (mut threes, mut chains) = (0, 0);
+    for _ in 0..400 {
+        let settings = Settings::valid(&mut rng);
+        let address = rng.draw() % settings.unit_count();
+        for changes in Change::ALL.into_iter().flat_map(|one| Change::ALL.map(|other| [one, other]))
+        {
+            let answers =
+                comparisons::changed_twice(&mut engine, &mut rng, &settings, address, changes);
+            threes += usize::from(answers.is_some());
+            chains += answers.map_or(0, |answers| answers.chains());
+        }
+    }
+    println!("{threes} times three tables, {chains} chains\n{}", engine.tally);
+    assert!(threes >= 2_500 && chains >= 500, "{threes}, {chains}");
+}
+
 /// The paper's tables with every byte changed to every other value, beside the unchanged ones.
 #[test]
 fn every_change_of_a_byte() {
