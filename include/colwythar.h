@@ -67,11 +67,14 @@ extern "C" {
 #define COLWYTHAR_LINE_BYTES 33
 #define COLWYTHAR_MAX_PAGE_BYTES 33792
 
-/* Which of two tables of a unit is finer, as colwythar_compare answers it. Proved of the tables that it accepts with the same
- * settings and address, so that comparisons can be left out: any two are accepted together; a table and itself have equal
- * blocks; where a first table is finer than a second or equal, and the second than a third, the first is finer than the third
- * or equal; where each of two is finer than the other or equal, the answer is COLWYTHAR_EQUAL_BLOCKS; with the tables
- * exchanged, first finer and second finer are exchanged, and the other two answers stay. */
+/* Which of two tables of a unit is finer, as colwythar_compare answers it. Proved of all tables that it accepts with the
+ * same settings and address, so that a caller may leave comparisons out; A is finer or equal to B where the answer for A
+ * and B is COLWYTHAR_EQUAL_BLOCKS or COLWYTHAR_FIRST_FINER:
+ * - any two of these tables are accepted together;
+ * - for a table and itself the answer is COLWYTHAR_EQUAL_BLOCKS;
+ * - if A is finer or equal to B, and B to C, then A is to C;
+ * - if A is finer or equal to B, and B to A, they have the same rectangles, and the answer is COLWYTHAR_EQUAL_BLOCKS;
+ * - for B and A the answer is that for A and B, with first finer and second finer exchanged. */
 #define COLWYTHAR_EQUAL_BLOCKS  0 /* the two have the same rectangles */
 #define COLWYTHAR_FIRST_FINER   1 /* every block of the second is a union of blocks of the first, not the other way round */
 #define COLWYTHAR_SECOND_FINER  2 /* every block of the first is a union of blocks of the second, not the other way round */

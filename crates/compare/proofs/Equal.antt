@@ -15,7 +15,7 @@ use Rattle.compare.specs.Finer.{spanIn, liesIn, isUnion, finerOrEqual, f
 use Rattle.compare.specs.Blocks.{SameBlock, BlocksOf, EqualBlocks}
 use Rattle.compare.specs.Tests.{Comparable}
 use Rattle.compare.proofs.Several.{same-tests, each-of, each-from}
-use Rattle.compare.proofs.Unions.{span-ends, other-at, union-of, union-from, lies-self, finer-of, finer-from}
+use Rattle.compare.proofs.Unions.{span-ends, union-of, union-from, lies-self, finer-of, finer-from, corner-block}
 
 -- ---- one block
 
@@ -63,11 +63,10 @@ module _ {rows others : List Row} (c : Comparable rows others) where
   blocks-of : finerOrEqual rows others ≡ true → finerOrEqual others rows ≡ true → BlocksOf rows others
   blocks-of f g i r e =
       let own = own-corner r in
-      let found = other-at rows others (c .same) i r e in
+      let found = corner-block rows others (c .one .once) (c .same) f i r e in
       let b = found .1 .row in
-      let h = finer-of rows others (c .one .once) f i (found .0) e (found .1 .is) (r .x) (r .y) (omega arith) (found .1 .has) in
-      let k = finer-of others rows (c .other .once) g (found .0) i (found .1 .is) e (r .x) (r .y) (found .1 .has) (omega arith) in
-      (found .0, record { row = b; is = found .1 .is; has = both-lie r b h k })
+      let k = finer-of others rows (c .other .once) g (found .0) i (found .1 .is) e (r .x) (r .y) (found .1 .has .0) (omega arith) in
+      (found .0, record { row = b; is = found .1 .is; has = both-lie r b (found .1 .has .1) k })
 
   pub finer-blocks : BlocksOf rows others → finerOrEqual rows others ≡ true
   finer-blocks f = finer-from rows others (c .other .once) (c .same) (λ i r e.

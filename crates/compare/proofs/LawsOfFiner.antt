@@ -3,6 +3,7 @@ use Prim.Native.Nat.{ℕ, zero, suc}
 use mathlib.Core.Path.{_≡_, refl, sym, ap, _∙_}
 use mathlib.Core.Bool.{Bool, true, false}
 use mathlib.Core.List.{List}
+use lib.Dec.{leb}
 use Rattle.settings.specs.declared.Settings.{Settings}
 use Rattle.tree.specs.Rows.{rowsIn}
 use Rattle.unit.specs.declared.Answer.the-variants.{Accepted}
@@ -19,9 +20,22 @@ use Rattle.compare.proofs.Unions.{finer-self}
 use Rattle.compare.proofs.Equal.{equal-blocks}
 use Rattle.compare.proofs.Through.{finer-through}
 use Rattle.compare.proofs.Calls.{passed-comparable}
-use Rattle.compare.proofs.PartitionsCompared.{both-pass, both-passed}
+use Rattle.compare.proofs.PartitionsCompared.{both-pass, both-passed, both-number}
 
 -- ---- the four answers
+
+-- whether the first is finer or equal, by the answer's number
+first-number : (a b : Bool) → leb (finerNumber (finerBy a b)) 1 ≡ a
+first-number true true = refl
+first-number true false = refl
+first-number false true = refl
+first-number false false = refl
+
+by-mirrored : (a b : Bool) → finerBy b a ≡ mirrored (finerBy a b)
+by-mirrored true true = refl
+by-mirrored true false = refl
+by-mirrored false true = refl
+by-mirrored false false = refl
 
 -- the answer of a number
 abbrev answerAt : ℕ → Finer
@@ -36,24 +50,8 @@ answer-back First = refl
 answer-back Second = refl
 answer-back Neither = refl
 
--- whether the first is finer or equal, by the answer
-abbrev firstOf : Finer → Bool
-firstOf Equal = true
-firstOf First = true
-firstOf Second = false
-firstOf Neither = false
-
-first-said : (a b : Bool) → firstOf (finerBy a b) ≡ a
-first-said true true = refl
-first-said true false = refl
-first-said false true = refl
-first-said false false = refl
-
-by-mirrored : (a b : Bool) → finerBy b a ≡ mirrored (finerBy a b)
-by-mirrored true true = refl
-by-mirrored true false = refl
-by-mirrored false true = refl
-by-mirrored false false = refl
+same-answer : (one other : Finer) → finerNumber one ≡ finerNumber other → one ≡ other
+same-answer one other e = sym (answer-back one) ∙ ap answerAt e ∙ answer-back other
 
 -- ---- tables that pass the way back's test
 
@@ -69,35 +67,29 @@ module _ (s : Settings) (a : ℕ) where
   both-tables {first} {second} (equal e) = both-passed s a first second e
   both-tables {first} {second} (finer e) = both-passed s a first second e
 
-  module _ {first second : List ℕ} (p : Table first) (q : Table second) where
-    samples : Comparable (rowsIn first) (rowsIn second)
-    samples = passed-comparable (luma-sound s) a p q
+  samples : {first second : List ℕ} → Table first → Table second → Comparable (rowsIn first) (rowsIn second)
+  samples p q = passed-comparable (luma-sound s) a p q
 
+  module _ (first second : List ℕ) where
     abbrev test : Bool
     test = finerOrEqual (rowsIn first) (rowsIn second)
 
-    answers : (answer : Finer) → comparison (rowsIn first) (rowsIn second) ≡ answer → Answers s a first second answer
-    answers answer e = both-pass s a first second p q ∙ ap (λ f. Accepted (finerNumber f)) e
-
-    answered : (answer : Finer) → Answers s a first second answer → comparison (rowsIn first) (rowsIn second) ≡ answer
-    answered answer e =
-        let g : Accepted (finerNumber (comparison (rowsIn first) (rowsIn second))) ≡ Accepted (finerNumber answer) = sym (both-pass s a first second p q) ∙ e in
-        let h : finerNumber (comparison (rowsIn first) (rowsIn second)) ≡ finerNumber answer = cc in
-        sym (answer-back (comparison (rowsIn first) (rowsIn second))) ∙ ap answerAt h ∙ answer-back answer
+    abbrev test₁ : Bool
+    test₁ = finerOrEqual (rowsIn second) (rowsIn first)
 
     test-of : FinerOrEqual s a first second → test ≡ true
-    test-of f = sym (first-said test (finerOrEqual (rowsIn second) (rowsIn first))) ∙ by f
+    test-of f = sym (first-number test test₁) ∙ by f
       where
-        by : FinerOrEqual s a first second → firstOf (comparison (rowsIn first) (rowsIn second)) ≡ true
-        by (equal e) = ap firstOf (answered Equal e)
-        by (finer e) = ap firstOf (answered First e)
+        by : FinerOrEqual s a first second → leb (finerNumber (comparison (rowsIn first) (rowsIn second))) 1 ≡ true
+        by (equal e) = ap (λ n. leb n 1) (both-number s a first second e)
+        by (finer e) = ap (λ n. leb n 1) (both-number s a first second e)
 
-    test-from : test ≡ true → FinerOrEqual s a first second
-    test-from h = go (finerOrEqual (rowsIn second) (rowsIn first)) refl
+    test-from : Table first → Table second → test ≡ true → FinerOrEqual s a first second
+    test-from p q h = go test₁ refl
       where
-        go : (b : Bool) → finerOrEqual (rowsIn second) (rowsIn first) ≡ b → FinerOrEqual s a first second
-        go true e = equal (answers Equal (rw (h, e)))
-        go false e = finer (answers First (rw (h, e)))
+        go : (b : Bool) → test₁ ≡ b → FinerOrEqual s a first second
+        go true e = equal (both-pass s a first second p q ∙ rw (h, e))
+        go false e = finer (both-pass s a first second p q ∙ rw (h, e))
 
   -- ---- the laws
 
@@ -108,30 +100,29 @@ module _ (s : Settings) (a : ℕ) where
   reflexive table f =
       let p = accepted-table f in
       let e = finer-self (rowsIn table) (samples p p .one .once) in
-      answers p p Equal (rw e)
+      both-pass s a table table p p ∙ rw e
 
   transitive : (first second third : List ℕ) → FinerOrEqual s a first second → FinerOrEqual s a second third → FinerOrEqual s a first third
   transitive first second third f g =
       let p = both-tables f in
       let q = both-tables g in
-      test-from (p .0) (q .1) (finer-through (samples (p .0) (p .1)) (samples (q .0) (q .1)) (test-of (p .0) (p .1) f) (test-of (q .0) (q .1) g))
+      let through = finer-through (samples (p .0) (p .1)) (samples (q .0) (q .1)) (test-of first second f) (test-of second third g) in
+      test-from first third (p .0) (q .1) through
 
   antisymmetric : (first second : List ℕ) → FinerOrEqual s a first second → FinerOrEqual s a second first
       → EqualBlocks (rowsIn first) (rowsIn second) × Answers s a first second Equal
   antisymmetric first second f g =
       let both = both-tables f in
-      let p = both .0 in
-      let q = both .1 in
-      let x = test-of p q f in
-      let y = test-of q p g in
-      (equal-blocks (samples p q) x y, answers p q Equal (rw (x, y)))
+      let x = test-of first second f in
+      let y = test-of second first g in
+      (equal-blocks (samples (both .0) (both .1)) x y, both-pass s a first second (both .0) (both .1) ∙ rw (x, y))
 
   mirror : (first second : List ℕ) (answer : Finer) → Answers s a first second answer → Answers s a second first (mirrored answer)
   mirror first second answer e =
       let both = both-passed s a first second e in
-      let p = both .0 in
-      let q = both .1 in
-      answers q p (mirrored answer) (by-mirrored (test p q) (test q p) ∙ ap mirrored (answered p q answer e))
+      let same = same-answer (comparison (rowsIn first) (rowsIn second)) answer (both-number s a first second e) in
+      let turn = by-mirrored (test first second) (test second first) ∙ ap mirrored same in
+      both-pass s a second first (both .1) (both .0) ∙ ap (λ f. Accepted (finerNumber f)) turn
 
 pub laws-of-finer : LawsOfFiner
 laws-of-finer = record { compared = compared; reflexive = reflexive; transitive = transitive; antisymmetric = antisymmetric; mirror = mirror }

@@ -55,6 +55,13 @@ module _ (s : Settings) (a : ℕ) (first second : List ℕ) where
       go (passed t) (faulty f w) = let g = second-ends (ap (λ r. r .end) (t .gives-flags)) w in never (cc)
       go (passed t) (passed u) = (t, u)
 
+  -- with the number of their comparison
+  pub both-number : {m : ℕ} → compareUnit s a first second ≡ Accepted m → finerNumber (comparison (rowsIn first) (rowsIn second)) ≡ m
+  both-number {m} e =
+      let both = both-passed e in
+      let g : Accepted (finerNumber (comparison (rowsIn first) (rowsIn second))) ≡ Accepted m = sym (both-pass (both .0) (both .1)) ∙ e in
+      cc
+
   -- ---- what is refused
 
   fault-of : Bytes first → (number place : ℕ) → compareUnit s a first second ≡ Refused number place → CompareFault s a first second number place
@@ -104,9 +111,8 @@ module _ (s : Settings) (a : ℕ) (h : unitRefusal s a ≡ 0) where
       let both = both-passed s a first second e in
       let t = both .0 in
       let u = both .1 in
-      let g : Accepted (finerNumber (comparison (rowsIn first) (rowsIn second))) ≡ Accepted m = sym (both-pass s a first second t u) ∙ e in
-      let h : finerNumber (comparison (rowsIn first) (rowsIn second)) ≡ m = cc in
-      (t .tree, u .tree, table-of (luma-sound s) a first small t, table-of (luma-sound s) a second small₁ u, rw (← (t .rows), ← (u .rows)) at h)
+      let number = rw (← (t .rows), ← (u .rows)) at (both-number s a first second e) in
+      (t .tree, u .tree, table-of (luma-sound s) a first small t, table-of (luma-sound s) a second small₁ u, number)
 
   equal : (t u : UnitTree (unitsOf s) a) → (comparison (rowsOf t) (rowsOf u) ≡ Equal) ↔ EqualBlocks (rowsOf t) (rowsOf u)
   equal t u =

@@ -127,7 +127,7 @@ other-at rows others same i r e =
     some-row (r .x) (r .y) others (omega arith)
 
 -- a row lies inside a block of the other table
-abbrev pub InBlock : List Row → Row → Type 0
+abbrev InBlock : List Row → Row → Type 0
 InBlock others r = (j : ℕ) × RowAt (λ b. liesIn r b ≡ true) others j
 
 module _ (rows others : List Row) where
@@ -155,6 +155,15 @@ module _ (rows others : List Row) where
           let also = lies-samples r (block .1 .row) px py (block .1 .has) (found .1 .has) in
           let is : block .1 .row ≡ b = one-row px py others (once px py) also there (block .0) j (block .1 .is) e in
           (found .0, record { row = r; is = found .1 .is; has = (found .1 .has, subst (λ q. liesIn r q ≡ true) is (block .1 .has)) })
+
+  -- the block that has a row's corner, where the rows' table is finer or equal: the row lies inside it
+  pub corner-block : ((px py : ℕ) → copies px py rows ≤ 1) → ((px py : ℕ) → copies px py rows ≡ copies px py others) → finerOrEqual rows others ≡ true
+      → (i : ℕ) (r : Row) → getElem? rows i ≡ some r → (j : ℕ) × RowAt (λ b. (0 < inRow b (r .x) (r .y)) × (liesIn r b ≡ true)) others j
+  corner-block once same h i r e =
+      let own = own-corner r in
+      let found = other-at rows others same i r e in
+      let there = found .1 .has in
+      (found .0, record { row = found .1 .row; is = found .1 .is; has = (there, finer-of once h i (found .0) e (found .1 .is) (r .x) (r .y) (omega arith) there) })
 
 -- ---- a table and itself
 

@@ -1,5 +1,5 @@
 -- R-11, one claim about what R-9's comparison answers: "finer or equal" is "reflexive and transitive over accepted tables of one unit", and "two tables that are each
--- finer or equal" are "the same set of rectangles". A caller may so skip comparisons. It is said of every settings and address: where 1 to 10 refuse, nothing is accepted.
+-- finer or equal" are "the same set of rectangles". So a caller may skip comparisons. It is said of all settings and addresses: where 1 to 10 refuse, nothing is accepted.
 use Prim.Native.Nat.{ℕ}
 use mathlib.Core.Path.{_≡_}
 use mathlib.Core.List.{List}
@@ -14,9 +14,9 @@ use Rattle.compare.specs.Compare.{compareUnit}
 
 -- two tables of a unit are compared with this answer
 abbrev pub Answers : Settings → ℕ → List ℕ → List ℕ → Finer → Type 0
-Answers s a first second finer = compareUnit s a first second ≡ Accepted (finerNumber finer)
+Answers s a first second answer = compareUnit s a first second ≡ Accepted (finerNumber answer)
 
--- a table of "accepted tables of one unit": some comparison that it is given to, in either place, is accepted
+-- one of the "accepted tables of one unit": the first or the second table of some accepted comparison
 pub data AcceptedTable (s : Settings) (a : ℕ) (table : List ℕ) : Type 0 where
   as-first : (second : List ℕ) (m : ℕ) → compareUnit s a table second ≡ Accepted m → AcceptedTable s a table
   as-second : (first : List ℕ) (m : ℕ) → compareUnit s a first table ≡ Accepted m → AcceptedTable s a table
@@ -37,12 +37,12 @@ pub record LawsOfFiner : Type 0 where
   -- any two accepted tables are compared with each other
   pub compared : (s : Settings) (a : ℕ) (first second : List ℕ) → AcceptedTable s a first → AcceptedTable s a second
       → (answer : Finer) × Answers s a first second answer
-  -- "reflexive": each beside itself has equal blocks
+  -- "reflexive": a table beside itself has equal blocks
   pub reflexive : (s : Settings) (a : ℕ) (table : List ℕ) → AcceptedTable s a table → Answers s a table table Equal
   -- "transitive"
   pub transitive : (s : Settings) (a : ℕ) (first second third : List ℕ) → FinerOrEqual s a first second → FinerOrEqual s a second third
       → FinerOrEqual s a first third
-  -- "two tables that are each finer or equal being the same set of rectangles", and that is what the answer says
+  -- "two tables that are each finer or equal being the same set of rectangles", and the answer is equal blocks
   pub antisymmetric : (s : Settings) (a : ℕ) (first second : List ℕ) → FinerOrEqual s a first second → FinerOrEqual s a second first
       → EqualBlocks (rowsIn first) (rowsIn second) × Answers s a first second Equal
   -- the tables exchanged: first finer becomes second finer and the other way round, the other two answers stay

@@ -7,21 +7,22 @@ use crate::{raw, Refusal, Settings};
 /// Which of two tables of a unit is finer. A table is finer where every block of the other is a union
 /// of its blocks, and the blocks are not equal; depths and the order of rows play no part.
 ///
-/// Proved of the tables of a unit that [`compare`] accepts, so that comparisons can be left out:
-/// - any two of them are accepted together;
-/// - a table and itself are [`Finer::Equal`];
-/// - where a first table is finer than a second or equal, and the second than a third, the first is
-///   finer than the third or equal ([`Finer::is_finer_or_equal`]);
-/// - where each of two is finer than the other or equal, they have the same rectangles, and the answer
-///   is [`Finer::Equal`];
-/// - the tables in the other order give the answer [`Finer::mirrored`].
+/// Proved of all tables that [`compare`] accepts with the same settings and address, so that a caller
+/// may leave comparisons out; A is finer or equal to B where [`Finer::first_is_finer_or_equal`] holds of
+/// the answer for A and B:
+/// - any two of these tables are accepted together;
+/// - for a table and itself the answer is [`Finer::Equal`];
+/// - if A is finer or equal to B, and B to C, then A is to C;
+/// - if A is finer or equal to B, and B to A, they have the same rectangles, and the answer is
+///   [`Finer::Equal`];
+/// - for B and A the answer is that for A and B, [`mirrored`](Finer::mirrored).
 ///
 /// ```
 /// use colwythar::Finer;
 ///
 /// assert_eq!(Finer::First.to_string(), "first finer");
 /// assert_eq!(Finer::First.mirrored(), Finer::Second);
-/// assert!(Finer::Equal.is_finer_or_equal());
+/// assert!(Finer::Equal.first_is_finer_or_equal());
 /// ```
 #[derive(Clone, Copy, Debug, PartialEq, Eq, Hash)]
 pub enum Finer {
@@ -48,7 +49,7 @@ impl Finer {
     }
 
     /// Is the first table finer than the second, or equal?
-    pub fn is_finer_or_equal(self) -> bool {
+    pub fn first_is_finer_or_equal(self) -> bool {
         matches!(self, Self::Equal | Self::First)
     }
 
@@ -76,8 +77,8 @@ impl fmt::Display for Finer {
 /// Says which of two tables of a unit is finer, if one is.
 ///
 /// A refusal does not say which table it is about. The first is tested first, so 15, 27, 28 and 16 are
-/// about the first exactly where it is also refused beside itself. What follows from some answers for
-/// others, without a call, stands at [`Finer`].
+/// about the first exactly where it is also refused beside itself. Which answers follow from others,
+/// without a call, is said at [`Finer`].
 ///
 /// ```
 /// use colwythar::{compare, Finer, Settings};

@@ -1,5 +1,6 @@
 //! Pairs of tables of a unit: of independent trees, of trees that one change tells apart, and with
-//! tables that are refused. Of a coding without comparisons nothing is compared.
+//! tables that are refused; and three tables of trees that two changes tell apart. Of a coding without
+//! comparisons nothing is compared.
 
 use samples::relatives::Change;
 use samples::Rng;
@@ -22,7 +23,7 @@ pub fn beside<S: Coding>(
 }
 
 /// The table of a legal unit beside itself, beside an empty one, and beside that of an independent tree;
-/// and trees of the unit before and after each change, some after a second one, too.
+/// and a tree before and after each change; for one unit in four, also before, between and after two.
 pub(crate) fn others<S: Coding>(engine: &mut Engine<S>, rng: &mut Rng, unit: &Unit<S>) {
     if S::COMPARISONS.is_empty() {
         return;
@@ -72,7 +73,7 @@ pub fn changed_twice<S: Coding>(
     let tables = settings.related(address, rng, &[one, other])?;
     let tables: Vec<&[u8]> = tables.iter().map(Vec::as_slice).collect();
     let answers = Answers::of(engine, rng, settings, address, &tables);
-    let expected = one.answer_with(other).or(answers.of_ends());
-    assert_eq!(answers.of_ends(), expected, "{one:?}, {other:?}: {settings:?} {tables:?}");
+    let expected = one.answer_with(other).or(answers.first_and_last());
+    assert_eq!(answers.first_and_last(), expected, "{one:?}, {other:?}: {settings:?} {tables:?}");
     Some(answers)
 }

@@ -10,8 +10,8 @@
 //! settings, lent buffers of every kind of length, whole sessions, small units in full, and the
 //! units with the most flags. Tables are also cut, go on after their end, and have rows changed,
 //! exchanged, left out and doubled. All tables of H.266 are also printed as pages, and most are compared
-//! with another table of the unit, in both orders, some with two, which obey the laws of finer; `tuned`
-//! has neither.
+//! with another table of the unit, in both orders; three tables of a unit, and all of small ones, are
+//! held to the laws of finer. `tuned` has neither pages nor comparisons.
 //!
 //! `h266` and `h265` share nothing with the engine, nor with each other. `tuned` takes from `h266` the
 //! check of the settings, the rules of open splits and where a refused table stops being a tree, and so

@@ -1,4 +1,4 @@
-//! Trees that one change makes of others, and which of the two tables is then finer.
+//! Trees that changes make of others, and which of their tables is finer.
 
 use h266::check::unit_root;
 use h266::{Node, Params, Settings, Split};
@@ -35,7 +35,7 @@ impl Change {
     }
 
     /// The same of the tables before this change and after another that follows it, by R-11's laws:
-    /// nothing where one of the two is open, or they make the table finer and coarser.
+    /// nothing where one of the two is open, or one makes the table finer and the other coarser.
     pub fn answer_with(self, next: Self) -> Option<u64> {
         match (self.answer()?, next.answer()?) {
             (0, answer) | (answer, 0) => Some(answer),
@@ -56,7 +56,7 @@ impl Change {
 }
 
 /// The tables of a random tree of this unit, as it was and after each of these changes in turn, each at
-/// a random node; nothing where no node of the tree can be changed so.
+/// a random node; nothing where one of the changes is possible at no node.
 ///
 /// # Panics
 ///

@@ -57,6 +57,7 @@ fn finer_tables() {
         check(&UNIT, 0, &WHOLE, &half, Finer::Second);
         for quarters in [QUAD, LINES, COLUMNS] {
             check(&UNIT, 0, &quarters, &half, Finer::First);
+            check(&UNIT, 0, &quarters, &WHOLE, Finer::First);
         }
     }
     check(&UNIT, 0, &TERNARY, &WHOLE, Finer::First);
@@ -140,5 +141,5 @@ fn words() {
 
 #[test]
 fn finer_or_equal() {
-    assert_eq!(ANSWERS.map(Finer::is_finer_or_equal), [true, true, false, false]);
+    assert_eq!(ANSWERS.map(Finer::first_is_finer_or_equal), [true, true, false, false]);
 }
