@@ -1,5 +1,5 @@
-// A unit's map: 1,024 cells of 4 by 4 samples, 32 a line, filled row by row; each cell holds the row, as one number, of the
-// block that it lies in.
+// A unit's map: 1,024 cells of 4 by 4 samples, 32 a line, filled row by row; each cell holds the row, as one number, of
+// the block that it lies in.
 ghost use mathlib.Core.Path.{_≡_};
 ghost use Prim.Native.Nat.{_+_, _≤_, _<_};
 ghost use lib.ListN.{length, getD, replicate};
@@ -9,8 +9,8 @@ ghost use Rattle.cells.specs.Map.{cellAt, Inside, filled};
 
 pub type Map = [u64; 1024];
 
-// The cell of a row's corner. A unit lies at multiples of its side, which is 128 at most, so that no two of its cells have
-// one number.
+// The cell of a row's corner. A unit lies at multiples of its side, which is 128 at most, so that no two of its cells
+// have one number.
 fn corner_cell(row: u64) -> usize
     ensures { λ r. ⌜ (r ≡ cellAt (nodeIn row .x) (nodeIn row .y)) × (r < 1024) ⌝ }
 {

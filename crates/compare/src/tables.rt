@@ -1,5 +1,5 @@
-// Whether one table is finer than another or equal, by the map of the other's rows: each of its rows must lie inside the
-// block that has its corner.
+// Whether one table is finer than another or equal, by the map of the other's rows: each of its rows must lie inside
+// the block that has its corner.
 use cells::Map;
 ghost use mathlib.Core.Path.{_≡_};
 ghost use Prim.Native.Nat.{_≤_, _<_};
