@@ -6,9 +6,8 @@ use Rattle.settings.specs.declared.Count.{Count}
 use Rattle.settings.specs.Units.{countNumber}
 use Rattle.unit.specs.declared.Answer.{Answer}
 use Rattle.unit.specs.Answers.{Outcome, Meets}
-use Rattle.unit.specs.Units.{Units}
-use Rattle.picture.specs.State.{Call, callIn, nextDue, Returns}
-use Rattle.colwythar.specs.Words.{answerWords, unitsIn, countWords, Leaves, OpensTo, Moves}
+use Rattle.picture.specs.State.{nextDue, Returns}
+use Rattle.colwythar.specs.Words.{answerWords, unitsIn, countWords, Leaves, OpensTo, Follows}
 
 module _ {Settings : Type 0} {said s : Settings} (e : s ≡ said) where
   -- one unit, whichever way
@@ -28,14 +27,14 @@ module _ {Settings : Type 0} {said s : Settings} (e : s ≡ said) where
       → {number next : ℕ} → number ≡ numberIn o → next ≡ dueIn o → OpensTo (numberIn (opening said)) (dueIn (opening said)) next (number ∷ 0 ∷ [])
   opened-to opening numberIn dueIn f n d = record { answers = rw (← e, ← f, n); moves = rw (← e, ← f, d) }
 
-  -- a unit call, of which the session is returned with the address due
-  pub moved-on : (unitsIn : Settings → Units) {Called : Type 0} (returned : Settings → ℕ → Answer → Called) (dueOf : Called → ℕ) (answerIn : Called → Answer) {due : ℕ} {c : Call}
-      → ((x : Settings) (a : Answer) → (dueOf (returned x due a) ≡ nextDue due a) × (answerIn (returned x due a) ≡ a))
-      → {r : Called} {answer left : List ℕ} → Returns (returned s due) (callIn (unitsIn s) due c) r left → answer ≡ answerWords (answerIn r)
-      → Moves (unitsIn said) due c (dueOf r) answer left
-  moved-on units returned dueOf answerIn {due} {c} same {r} {answer} {left} y w =
-      let z = subst (λ x. Returns (returned x due) (callIn (units x) due c) r left) e y in
-      let o = same said (callIn (units said) due c .answer) in
+  -- a call on a session, which is returned with the address due
+  pub moved-on : {due : ℕ} (outcome : Settings → Outcome) {Called : Type 0} (returned : Settings → Answer → Called) (dueOf : Called → ℕ) (answerIn : Called → Answer)
+      → ((x : Settings) (a : Answer) → (dueOf (returned x a) ≡ nextDue due a) × (answerIn (returned x a) ≡ a))
+      → {r : Called} {answer left : List ℕ} → Returns (returned s) (outcome s) r left → answer ≡ answerWords (answerIn r)
+      → Follows (outcome said) due (dueOf r) answer left
+  moved-on outcome returned dueOf answerIn same {r} {answer} {left} y w =
+      let z = subst (λ x. Returns (returned x) (outcome x) r left) e y in
+      let o = same said (outcome said .answer) in
       record {
         next = ap dueOf (z .returns) ∙ o .0;
         outcome = record { answers = w ∙ ap (λ x. answerWords (answerIn x)) (z .returns) ∙ ap (λ x. answerWords x) (o .1); leaves = z .leaves };

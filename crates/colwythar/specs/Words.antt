@@ -57,10 +57,14 @@ pub record Leaves (o : Outcome) (answer left : List ℕ) : Type 0 where
   pub answers : answer ≡ answerWords (o .answer)
   pub leaves : left ≡ o .buffer
 
--- a unit call on a session, which is its settings' units and the address due: its outcome, and the address due after it
-pub record Moves (us : Units) (due : ℕ) (c : Call) (after : ℕ) (answer left : List ℕ) : Type 0 where
-  pub next : after ≡ nextDue due (callIn us due c .answer)
-  pub outcome : Leaves (callIn us due c) answer left
+-- the outcome of a call on a session: its words, its buffer, and the address due after it
+pub record Follows (o : Outcome) (due after : ℕ) (answer left : List ℕ) : Type 0 where
+  pub next : after ≡ nextDue due (o .answer)
+  pub outcome : Leaves o answer left
+
+-- of a unit call on a session, which is its settings' units and the address due
+abbrev pub Moves : Units → (due : ℕ) → Call → (after : ℕ) → List ℕ → List ℕ → Type 0
+Moves us due c after answer left = Follows (callIn us due c) due after answer left
 
 -- An accepted answer and a refusal never have the same words: the first word of what a function answers is 0 exactly where
 -- the call is accepted.

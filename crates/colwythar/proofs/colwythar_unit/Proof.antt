@@ -1,7 +1,9 @@
 -- `colwythar_unit` meets its contract.
 use mathlib.Core.Path.{refl}
+use denote.Ref.{now}
 use borrow.Author.Needs.{needs}
 use Rattle.unit.specs.Luma.{unitsOf}
+use Rattle.picture.specs.State.{call, callIn}
 use Rattle.picture.specs.declared.Called.{Called}
 use Rattle.picture.specs.Session.{returned}
 use Rattle.colwythar.proofs.Passing.{moved-on}
@@ -24,7 +26,8 @@ returns : tie.Need-returns
 returns c =
     let called = c .before .before .before .before .before in
     let set = called .before .before .before in
-    moved-on (set .from-words .ensures) (λ s. unitsOf s) (λ s due. returned (record { settings = s; due = due })) (λ (r : Called). r .session .due) (λ (r : Called). r .answer) (λ x y. (refl, refl)) (called .unit .ensures) (c .put-answer .ensures)
+    let a = set .before .before .before .args in
+    moved-on (set .from-words .ensures) (λ s. callIn (unitsOf s) (now (a .due)) (call (a .address) (now (a .flags)) (now (a .rows)))) (λ s. returned (record { settings = s; due = now (a .due) })) (λ (r : Called). r .session .due) (λ (r : Called). r .answer) (λ x y. (refl, refl)) (called .unit .ensures) (c .put-answer .ensures)
 
 pub colwythar-unit-spec : {M : Type 1} → statement M
 colwythar-unit-spec =

@@ -1,0 +1,4 @@
+pub mod Parts
+pub mod OnAccount
+pub mod Sums
+pub mod Grants

@@ -1,0 +1,3 @@
+pub mod Accounts
+pub mod Granting
+pub mod Bank

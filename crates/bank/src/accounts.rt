@@ -1,0 +1,102 @@
+// The accounts of a bank of cameras, one at a time: what an account takes of the rows that all cameras share, and how many its
+// camera could have.
+use unit::Answer;
+ghost use mathlib.Core.Path.{_≡_};
+ghost use Prim.Native.Nat.{ℕ, _-_, _≤_};
+ghost use Rattle.unit.specs.declared.Answer.the-variants.{Accepted as Answer·Accepted};
+ghost use Rattle.bank.specs.Accounts.{cleared, taken, could, all, leftAfter, charged};
+
+// A camera's account: its reserved share, and the rows used since the last new period. A caller lends a list of them.
+#[repr(C)]
+pub struct Account {
+    pub share: u32,
+    pub used: u32,
+}
+
+// What is left of the common part; no row where more is taken than there is.
+pub struct Left {
+    pub rows: u64,
+    pub overdrawn: bool,
+}
+
+// The account in a new period.
+pub fn cleared(a: Account) -> Account
+    ensures { λ r. ⌜ r ≡ cleared a ⌝ }
+{
+    Account {
+        share: a.share,
+        used: 0,
+    }
+}
+
+// What is left of a limit before any account has taken of it.
+pub fn all_left(limit: u64) -> Left
+    ensures { λ r. ⌜ r ≡ all limit ⌝ }
+{
+    Left {
+        rows: limit,
+        overdrawn: false,
+    }
+}
+
+// x less y, and 0 where y is more.
+fn less(x: u64, y: u64) -> u64
+    ensures { λ r. ⌜ r ≡ x - y ⌝ }
+{
+    if y <= x { x - y } else { 0 }
+}
+
+// What an account takes of the limit: its share, and the use beyond it.
+fn taken(a: Account) -> u64
+    ensures { λ r. ⌜ r ≡ taken a ⌝ }
+{
+    let share = a.share;
+    let used = a.used;
+    if share < used {
+        used as u64
+    } else {
+        share as u64
+    }
+}
+
+// What is left after one more account.
+pub fn left_after(left: Left, a: Account) -> Left
+    ensures { λ r. ⌜ r ≡ leftAfter left a ⌝ }
+{
+    let rows = left.rows;
+    let overdrawn = left.overdrawn;
+    let n = taken(a);
+    Left {
+        rows: less(rows, n),
+        overdrawn: overdrawn | (rows < n),
+    }
+}
+
+// How many rows a camera could have, by its account and what is left of the common part.
+pub(crate) fn could_have(left: u64, a: Account) -> usize
+    ensures { λ r. ⌜ r ≡ could left a ⌝ }
+{
+    let share = a.share as u64;
+    let used = a.used as u64;
+    let unused = less(share, used);
+    let most = 4294967295 - used;
+    if most - unused < left {
+        most as usize
+    } else {
+        (unused + left) as usize
+    }
+}
+
+// The account after a grant with an answer.
+pub(crate) fn charged(a: Account, answer: Answer) -> Account
+    requires { ⌜ ((count : ℕ) → answer ≡ Answer·Accepted count → count ≤ 4294967295 - a .used) ⌝ }
+    ensures { λ r. ⌜ r ≡ charged a answer ⌝ }
+{
+    match answer {
+        Answer::Accepted(count) => Account {
+            share: a.share,
+            used: a.used + count as u32,
+        },
+        Answer::Refused(_, _) => a,
+    }
+}

@@ -1,0 +1,100 @@
+// One row allowance for a bank of cameras: the grant, by a camera's own account and what is left of the common part. The two
+// functions over the lent list of accounts are those of the C interface (crates/colwythar/src/bank_calls.rt).
+mod accounts;
+
+pub use accounts::Account;
+pub use accounts::Left;
+pub use accounts::all_left;
+pub use accounts::cleared;
+pub use accounts::left_after;
+use picture::Called;
+use picture::Session;
+use unit::Answer;
+ghost use mathlib.Core.Path.{_≡_};
+ghost use Prim.Native.Nat.{_*_, _≤_, min};
+ghost use Rattle.picture.specs.State.{call, Returns};
+ghost use Rattle.picture.specs.Session.{unitCall, returned};
+ghost use Rattle.bank.specs.Granting.{within, judged, Grants};
+
+// What a grant returns: the camera's account afterwards, and what its unit call returns.
+pub struct Granted {
+    pub account: Account,
+    pub called: Called,
+}
+
+// How much of a row buffer a table may take that has so many rows at most.
+fn part(room: usize, could: usize) -> usize
+    requires { ⌜ could ≤ 4294967295 ⌝ }
+    ensures { λ r. ⌜ r ≡ min room (8 * could) ⌝ }
+{
+    if room < 8 * could { room } else { 8 * could }
+}
+
+// The answer of a unit call that was lent such a part of a buffer: a table that has no room in the part, and has in the buffer,
+// is refused with 36.
+fn judged(answer: Answer, room: usize, could: usize) -> Answer
+    ensures { λ r. ⌜ r ≡ judged answer room could ⌝ }
+{
+    let Answer::Refused(number, place) = answer else {
+        return answer;
+    };
+    if (number == 14) & (place <= room / 8) {
+        return Answer::Refused(36, could);
+    }
+    answer
+}
+
+// The unit call of a camera, for which so many rows could be had: it is lent no more of the buffer than that many rows take, so
+// the flags are read once, and nothing is written before 36 is passed.
+fn unit_within(
+    session: Session,
+    could: usize,
+    address: usize,
+    flags: &[u8],
+    rows: &mut [u8],
+) -> Called
+    requires { ⌜ could ≤ 4294967295 ⌝ }
+    ensures { λ r. ⌜ Returns (returned session) (within could (now (rows .entry)) (unitCall session (call address (now (flags .entry)) (now (rows .entry))))) r (now (rows .exit)) ⌝ }
+{
+    let room = rows.len();
+    let n = part(room, could);
+    let called = session.unit(address, flags, &mut rows[..n]);
+    let next = called.session;
+    let answer = called.answer;
+    Called {
+        session: next,
+        answer: judged(answer, room, could),
+    }
+}
+
+// The grant on a camera's own account: 38 where more is taken than there is, the unit call's refusals, and 36, after 14, where
+// the table has more rows than could be had. A refusal leaves the account, the session and the buffer as they were.
+pub fn grant(
+    left: Left,
+    own: Account,
+    session: Session,
+    address: usize,
+    flags: &[u8],
+    rows: &mut [u8],
+) -> Granted
+    ensures { λ r. ⌜ Grants left own session (call address (now (flags .entry)) (now (rows .entry))) r (now (rows .exit)) ⌝ }
+{
+    let overdrawn = left.overdrawn;
+    if overdrawn {
+        return Granted {
+            account: own,
+            called: Called {
+                session,
+                answer: Answer::Refused(38, 0),
+            },
+        };
+    }
+    let free = left.rows;
+    let could = accounts::could_have(free, own);
+    let called = unit_within(session, could, address, flags, rows);
+    let answer = called.answer;
+    Granted {
+        account: accounts::charged(own, answer),
+        called,
+    }
+}
