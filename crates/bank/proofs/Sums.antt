@@ -22,6 +22,13 @@ sum-set f [] i a h = absurd (not-suc-le-zero h)
 sum-set f (y ∷ ys) zero a h = omega arith
 sum-set f (y ∷ ys) (suc i) a h = omega (arith, sum-set f ys i a (le-of-suc-le-suc h))
 
+-- one of them
+pub one-most : (f : Account → ℕ) (ys : List Account) (i : ℕ) → i < length ys → f (getD ys i none) ≤ sumOf f ys
+unfolding sumOf
+one-most f [] i h = absurd (not-suc-le-zero h)
+one-most f (y ∷ ys) zero h = omega arith
+one-most f (y ∷ ys) (suc i) h = omega (arith, one-most f ys i (le-of-suc-le-suc h))
+
 -- a new period
 pub shares-cleared : (ys : List Account) → shares (map cleared ys) ≡ shares ys
 unfolding sumOf
@@ -37,6 +44,12 @@ pub drawn-cleared : (ys : List Account) → drawn (map cleared ys) ≡ 0
 unfolding sumOf
 drawn-cleared [] = refl
 drawn-cleared (y ∷ ys) = omega (arith, drawn-cleared ys)
+
+-- no more is used than the shares and what is drawn
+pub use-most : (ys : List Account) → totalUse ys ≤ shares ys + drawn ys
+unfolding sumOf
+use-most [] = omega arith
+use-most (y ∷ ys) = omega (arith, use-most ys)
 
 -- what is taken: the shares and what is drawn
 pub taken-is : (ys : List Account) → sumOf taken ys ≡ shares ys + drawn ys

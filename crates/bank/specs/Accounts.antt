@@ -31,10 +31,14 @@ abbrev pub charged : Account → Answer → Account
 charged a (Accepted count) = record { share = a .share; used = a .used + count }
 charged a (Refused number place) = a
 
--- "the rows that could be had": the camera's unused share plus what is left of the common part, and no more than its use, of 32 bits, can still count. Where L has 32
--- bits, that is never less (RowAllowance.antt).
+-- what an account takes of L: its share, and the use beyond it
+abbrev pub taken : Account → ℕ
+taken a = a .share + beyond a
+
+-- "the rows that could be had": the camera's unused share plus what is left of the common part, and of that no more than its use, of 32 bits, can still count. Where L has 32
+-- bits, that is all of it (RowAllowance.antt).
 abbrev pub could : (left : ℕ) → Account → ℕ
-could left a = min (unused a + left) (4294967295 - a .used)
+could left a = unused a + min left (4294967295 - taken a)
 
 -- ---- all of them
 
@@ -66,10 +70,6 @@ abbrev pub leftOf : (limit : ℕ) → List Account → Left
 leftOf limit accounts = record { rows = commonPart limit accounts - drawn accounts; overdrawn = overdrawn limit accounts }
 
 -- ---- as the code finds it, account by account
-
--- what an account takes of the limit: its share, and the use beyond it
-abbrev pub taken : Account → ℕ
-taken a = a .share + beyond a
 
 -- what is left before the first account, and after one more
 abbrev pub all : (limit : ℕ) → Left

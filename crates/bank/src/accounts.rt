@@ -2,9 +2,9 @@
 // camera could have.
 use unit::Answer;
 ghost use mathlib.Core.Path.{_≡_};
-ghost use Prim.Native.Nat.{ℕ, _-_, _≤_};
+ghost use Prim.Native.Nat.{ℕ, _+_, _-_, _≤_};
 ghost use Rattle.unit.specs.declared.Answer.the-variants.{Accepted as Answer·Accepted};
-ghost use Rattle.bank.specs.Accounts.{cleared, taken, could, all, leftAfter, charged};
+ghost use Rattle.bank.specs.Accounts.{cleared, unused, taken, could, all, leftAfter, charged};
 
 // A camera's account: its reserved share, and the rows used since the last new period. A caller lends a list of them.
 #[repr(C)]
@@ -76,20 +76,19 @@ pub fn left_after(left: Left, a: Account) -> Left
 pub(crate) fn could_have(left: u64, a: Account) -> usize
     ensures { λ r. ⌜ r ≡ could left a ⌝ }
 {
-    let share = a.share as u64;
-    let used = a.used as u64;
-    let unused = less(share, used);
-    let most = 4294967295 - used;
-    if most - unused < left {
-        most as usize
-    } else {
+    let n = taken(a);
+    let unused = n - a.used as u64;
+    let most = 4294967295 - n;
+    if left < most {
         (unused + left) as usize
+    } else {
+        (unused + most) as usize
     }
 }
 
 // The account after a grant with an answer.
 pub(crate) fn charged(a: Account, answer: Answer) -> Account
-    requires { ⌜ ((count : ℕ) → answer ≡ Answer·Accepted count → count ≤ 4294967295 - a .used) ⌝ }
+    requires { ⌜ ((count : ℕ) → answer ≡ Answer·Accepted count → count ≤ unused a + (4294967295 - taken a)) ⌝ }
     ensures { λ r. ⌜ r ≡ charged a answer ⌝ }
 {
     match answer {

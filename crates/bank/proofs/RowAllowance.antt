@@ -1,0 +1,112 @@
+-- R-12: one row allowance for a bank of cameras.
+use Prim.Native.Nat.{ℕ, _+_, _-_, _≤_, _<_, min}
+use mathlib.Core.Path.{_≡_, refl, sym, ap, subst, _∙_}
+use mathlib.Core.List.{List}
+use mathlib.Core.Logic.{_↔_}
+use native.Mathlib.Omega.{arith}
+use native.Mathlib.Decide.{decLt}
+use lib.ListN.{length}
+use Rattle.laws.proofs.Tests.{never}
+use Rattle.unit.specs.declared.Answer.{Answer}
+use Rattle.unit.specs.declared.Answer.the-variants.{Accepted, Refused}
+use Rattle.unit.specs.Answers.{Outcome, numberOf, refused}
+use Rattle.unit.specs.Luma.{unitsOf}
+use Rattle.unit.proofs.Luma.{luma-sound}
+use Rattle.picture.specs.declared.Session.{Session}
+use Rattle.picture.specs.State.{Call}
+use Rattle.picture.specs.Session.{unitCall}
+use Rattle.bank.specs.declared.accounts.Account.{Account}
+use Rattle.bank.specs.Accounts.{cleared, unused, shares, drawn, commonPart, leftOf, taken}
+use Rattle.bank.specs.Bank.{accountOf}
+use Rattle.bank.specs.GrantFaults.{Passes, couldHave}
+use Rattle.bank.specs.BankCalls.{grant, BankCall, new-period, accountsIn, grantedSince, afterCalls, grantedIn}
+use Rattle.bank.specs.RowAllowance.{AfterCalls, RowAllowance}
+use Rattle.bank.proofs.Sums.{one-most, taken-is}
+use Rattle.bank.proofs.Grants.{grant-absent}
+use Rattle.bank.proofs.GrantFaults.{within-fits, within-more, grant-passing, grant-decides}
+use Rattle.bank.proofs.BankCalls.{Kept, kept-period, kept-calls}
+
+-- ---- one grant
+
+-- what is left of a share could be had
+share-could : (share used left n : ℕ) → n ≤ share - used → n ≤ (share - used) + min left (4294967295 - (share + (used - share)))
+share-could share used left n h = omega arith
+
+-- the use can count what is left
+counts : (taken left : ℕ) → taken + left ≤ 4294967295 → min left (4294967295 - taken) ≡ left
+counts taken left h = omega arith
+
+module _ (limit : ℕ) (accounts : List Account) (t : Session) (camera : ℕ) (c : Call) {n : ℕ} (e : unitCall t c .answer ≡ Accepted n) (p : Passes limit accounts camera) where
+  -- a table is granted where so many rows could be had, and else refused with 36
+  pub grant-fits : n ≤ couldHave limit accounts camera → grant limit accounts t camera c ≡ unitCall t c
+  grant-fits l = grant-passing (unitsOf (t .settings)) (t .due) limit accounts camera c p ∙ within-fits (couldHave limit accounts camera) (c .buffer) (unitCall t c) e l
+
+  grant-more : couldHave limit accounts camera < n → ¬ (grant limit accounts t camera c ≡ unitCall t c)
+  grant-more l g =
+      let w = grant-passing (unitsOf (t .settings)) (t .due) limit accounts camera c p ∙ within-more (couldHave limit accounts camera) (c .buffer) (unitCall t c) e l in
+      let f : Refused 36 (couldHave limit accounts camera) ≡ Accepted n = ap (λ (o : Outcome). o .answer) (sym w ∙ g) ∙ e in
+      never (cc)
+
+  -- the use, of 32 bits, can count what the share and the limit allow
+  pub whole : limit < 4294967296 → couldHave limit accounts camera ≡ unused (accountOf accounts camera) + leftOf limit accounts .rows
+  whole l =
+      let own = accountOf accounts camera in
+      let r = p .reserved in
+      let u = p .undrawn in
+      let o = one-most taken accounts camera (p .there) in
+      let s = taken-is accounts in
+      ap (λ (m : ℕ). unused own + m) (counts (taken own) (commonPart limit accounts - drawn accounts) (omega arith))
+
+  exactly : limit < 4294967296 → (grant limit accounts t camera c ≡ unitCall t c) ↔ (n ≤ unused (accountOf accounts camera) + leftOf limit accounts .rows)
+  exactly l =
+      let w = whole l in
+      (λ g. go g (decLt (couldHave limit accounts camera) n), λ h. grant-fits (omega arith))
+    where
+      go : grant limit accounts t camera c ≡ unitCall t c → Dec (couldHave limit accounts camera < n) → n ≤ unused (accountOf accounts camera) + leftOf limit accounts .rows
+      go g (yes h) = absurd (grant-more h g)
+      go g (no h) = let w = whole l in omega arith
+
+-- ---- the next grant after a list of calls
+
+module _ (limit : ℕ) (accounts : List Account) (calls : List BankCall) where
+  abbrev present : List Account
+  present = accountsIn limit accounts calls
+
+  kept : Kept limit (shares accounts) (length accounts) present (grantedSince limit accounts calls)
+  unfolding afterCalls grantedIn
+  kept = kept-calls (kept-period limit accounts) calls
+
+  -- it passes 38
+  passes : shares accounts ≤ limit → (camera : ℕ) → camera < length accounts → Passes limit present camera
+  passes s camera h =
+      let e = kept .shared in
+      let l = kept .lasting in
+      let u = kept .undrawn (omega arith) in
+      record { there = omega arith; reserved = omega arith; undrawn = omega arith }
+
+  module _ (s : shares accounts ≤ limit) (t : Session) (camera : ℕ) (c : Call) (n : ℕ) (e : unitCall t c .answer ≡ Accepted n) (l : n ≤ unused (accountOf present camera)) where
+    granted : camera < length accounts → grant limit present t camera c ≡ unitCall t c
+    granted h = grant-fits limit present t camera c e (passes s camera h) (share-could (accountOf present camera .share) (accountOf present camera .used) (leftOf limit present .rows) n l)
+
+    reserved : (¬ (numberOf (grant limit present t camera c .answer) ≡ 36)) × (¬ (numberOf (grant limit present t camera c .answer) ≡ 38))
+    reserved = go (decLt camera (length accounts))
+      where
+        number-is : {o : Outcome} → grant limit present t camera c ≡ o → numberOf (grant limit present t camera c .answer) ≡ numberOf (o .answer)
+        number-is w = ap (λ (x : Outcome). numberOf (x .answer)) w
+
+        go : Dec (camera < length accounts) → (¬ (numberOf (grant limit present t camera c .answer) ≡ 36)) × (¬ (numberOf (grant limit present t camera c .answer) ≡ 38))
+        go (yes h) = let z = number-is (granted h) ∙ ap numberOf e in (λ x. omega arith, λ x. omega arith)
+        go (no h) =
+            let g = kept .lasting in
+            let z = number-is (grant-absent (unitsOf (t .settings)) (t .due) limit present camera c (omega arith)) in
+            (λ x. omega arith, λ x. omega arith)
+
+  after-calls : AfterCalls limit accounts calls
+  after-calls = record { total = kept .used; enough = kept .most; reserved = reserved; granted = λ s t camera c n e h l. granted s t camera c n e l h }
+
+pub row-allowance : RowAllowance
+row-allowance = record {
+  decided = λ limit accounts t camera c. grant-decides (unitsOf (t .settings)) (t .due) limit accounts camera c (luma-sound (t .settings)) (λ due. record { settings = t .settings; due = due });
+  exactly = λ limit accounts t camera c n p l e. exactly limit accounts t camera c e p l;
+  calls = after-calls;
+}
