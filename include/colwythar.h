@@ -14,11 +14,12 @@
  *
  * An answer is two numbers. answer[0] is COLWYTHAR_ACCEPTED, which is 0, where the call is accepted, else the number of
  * the refusal, which is never 0; answer[1] is the count of rows, flags, units or bytes of a page, or which of two tables is
- * finer, or the refusal's place, 0 where none is named below. A refused call leaves every buffer and the due address as
- * they were; an accepted one leaves the bytes past its answer as they were.
+ * finer, or the refusal's place, 0 where none is named below. A refused call leaves every buffer, the due address and the
+ * accounts as they were; an accepted one leaves the bytes past its answer as they were.
  *
  * What the caller must see to: pointers are not null, also where their length is 0, and point to as much as their
- * type or length says; what is written to (rows, flags or page, due, answer) overlaps nothing else that is passed.
+ * type or length says; what is written to (rows, flags or page, due, accounts, answer) overlaps nothing else that is
+ * passed.
  */
 #ifndef COLWYTHAR_H
 #define COLWYTHAR_H
@@ -81,8 +82,9 @@ extern "C" {
 #define COLWYTHAR_NEITHER_FINER 3
 
 /* The numbers of an answer. Within a group the first that fails, in the order of the numbers, is answered; but 11 and 12
- * are met in the walk, whichever comes first, 27 and 28 are tested before 16, and the session's are tested in the order
- * 22, 20, 21, before the flags. H.265 has 34, 35, 7 and 8, in this order, in place of 1 to 9. */
+ * are met in the walk, whichever comes first, 27 and 28 are tested before 16, the session's are tested in the order
+ * 22, 20, 21, before the flags, and a grant's are 37 and 38, before the session's, and 36, after all others. H.265 has 34,
+ * 35, 7 and 8, in this order, in place of 1 to 9. */
 #define COLWYTHAR_ACCEPTED 0
 
 /* The settings. */
@@ -125,6 +127,11 @@ extern "C" {
 /* Printing a page, after 1 to 10, 15, 27, 28 and 16. */
 #define COLWYTHAR_SHORT_PAGE        23 /* page too short; place: the bytes needed */
 
+/* A grant: 37 and 38, then the unit call's, then 36. */
+#define COLWYTHAR_NOT_GRANTED       36 /* more rows than could be had; place: the rows that could */
+#define COLWYTHAR_NO_ACCOUNT        37 /* the camera has no account */
+#define COLWYTHAR_BAD_ACCOUNTS      38 /* the shares exceed the limit, or more is drawn than the common part has */
+
 /* Reads the flags of the unit at an address into the row buffer. Answers the number of rows, or 1 to 14. */
 void colwythar_read_unit(const uint32_t settings[8], uint64_t address, const uint8_t *flags, size_t flags_len,
                          uint8_t *rows, size_t rows_len, uint64_t answer[2]);
@@ -159,6 +166,32 @@ void colwythar_open(const uint32_t settings[8], uint64_t *due, uint64_t answer[2
  * address is the number of units, and the picture is complete. */
 void colwythar_unit(const uint32_t settings[8], uint64_t *due, uint64_t address, const uint8_t *flags,
                     size_t flags_len, uint8_t *rows, size_t rows_len, uint64_t answer[2]);
+
+/* A camera's account in a bank of cameras that share memory for a limit of rows in a picture period. There is one for each
+ * camera, lent as a list. What the limit has beyond the sum of the shares is common; what an account has used beyond its
+ * share is drawn from the common part. */
+typedef struct {
+    uint32_t share; /* the rows reserved for the camera */
+    uint32_t used;  /* the rows of the tables granted to it in this period */
+} colwythar_account;
+
+/* The unit call of a camera of a bank: as colwythar_unit, but the table is granted only where it has at most as many rows as
+ * could be had. These are the camera's unused share and what is left of the common part, but no more than its count of used
+ * rows can still take, up to 4,294,967,295; that is never less where the limit itself is no greater. A granted table is
+ * added to the camera's used rows. Answers the number of rows, or 37 and 38, then 22, 20, 21 and 11 to 14, then 36. Any
+ * number of accounts with any numbers in them is taken, and any limit; sums don't wrap.
+ *
+ * Proved of all calls on one list with one limit that begin with a new period and alone change the list:
+ * - the used rows of all cameras are together the rows of the tables granted since the last new period;
+ * - they never exceed the limit;
+ * - where the shares sum to at most the limit, no table within its camera's unused share is refused with 36 or 38, whatever
+ *   the other cameras did. */
+void colwythar_grant(const uint32_t settings[8], uint64_t *due, uint64_t address, const uint8_t *flags,
+                     size_t flags_len, uint8_t *rows, size_t rows_len, colwythar_account *accounts,
+                     size_t accounts_len, uint64_t camera, uint64_t limit, uint64_t answer[2]);
+
+/* A new picture period of a bank: sets the used rows of all accounts to 0, and leaves their shares. Never refused. */
+void colwythar_new_period(colwythar_account *accounts, size_t accounts_len);
 
 /* The same for H.265, whose tree is a quad tree only: a node has a flag where it lies inside the picture and is larger than
  * MinCb, and is split without one where it reaches out of the picture. */
