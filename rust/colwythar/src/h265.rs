@@ -29,7 +29,8 @@
 //! ```
 //!
 //! Settings are refused with 34, 35, 7 and 8, in this order, and where H.266 has 1 to 9 for a call these
-//! stand in their place. There is no page of such a unit, and its tables are not compared.
+//! stand in their place. There is no page of such a unit, its tables are not compared, and no
+//! [`Bank`](crate::Bank) grants them.
 
 use crate::{coding, Refusal};
 pub use crate::{read_unit, write_flags};

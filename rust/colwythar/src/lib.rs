@@ -2,7 +2,7 @@
 //!
 //! The engine turns the split flags of one unit into its table of coding blocks, and a table back
 //! into the flags. Everything that it refuses has a number and a place; a refused call leaves
-//! buffers and session as they were.
+//! buffers, session and accounts as they were.
 //!
 //! A picture is read unit by unit through a [`Session`]:
 //!
@@ -26,13 +26,15 @@
 //! ```
 //!
 //! Single units need no session: [`read_unit`] and [`write_flags`], and [`page()`], which prints the
-//! rows as lines of text; [`compare()`] says which of two tables of a unit is finer. Pictures in H.265
-//! have settings of their own: [`h265`].
+//! rows as lines of text; [`compare()`] says which of two tables of a unit is finer. Cameras that share
+//! memory for their rows are a [`Bank`], which grants the units of their sessions. Pictures in H.265 have
+//! settings of their own: [`h265`].
 //!
 //! The static library is looked for in the folder `COLWYTHAR_LIB_DIR`, else in the repository's
 //! `target/staticlib`, where the build script has it proved and built anew whenever its sources change.
 #![warn(missing_docs)]
 
+mod bank;
 mod coding;
 mod compare;
 pub mod h265;
@@ -43,6 +45,7 @@ mod row;
 mod session;
 mod settings;
 
+pub use bank::{Account, Bank};
 pub use coding::Coding;
 pub use compare::{compare, Finer};
 pub use page::{page, page_text, LINE_BYTES, MAX_PAGE_BYTES};

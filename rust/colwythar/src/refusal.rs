@@ -46,7 +46,7 @@ use std::fmt;
 /// ```
 #[derive(Clone, Copy, Debug, PartialEq, Eq, Hash)]
 pub struct Refusal {
-    /// 1 to 17, 20 to 23, 27, 28, 34 or 35.
+    /// 1 to 17, 20 to 23, 27, 28 or 34 to 38.
     pub number: u64,
     /// Where or how much, according to the number.
     pub place: u64,
@@ -80,6 +80,8 @@ impl Refusal {
             22 => "this is no session that an opening or an accepted unit yielded",
             34 => "the CTU side is not 16, 32 or 64",
             35 => "MinCb is no power of two from 8 to the CTU side",
+            37 => "the camera has no account",
+            38 => "the shares exceed the limit, or more is drawn than the common part has",
             _ => "the engine gave an unknown number",
         }
     }
@@ -110,6 +112,7 @@ impl fmt::Display for Refusal {
                 write!(f, "too many rows, the first that is too many is row {place}")?;
                 f.write_str(", counted from 0")
             }
+            36 => write!(f, "only {place} rows could be had for this camera"),
             _ => f.write_str(self.sentence()),
         }
     }

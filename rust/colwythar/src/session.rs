@@ -51,6 +51,12 @@ impl<S: Coding> Session<S> {
         Refusal::check(self.settings.raw_unit(&mut self.due, address, flags, rows))
     }
 
+    /// The settings, and the address due to be moved on by a call of the engine.
+    #[inline]
+    pub(crate) fn parts(&mut self) -> (&S, &mut u64) {
+        (&self.settings, &mut self.due)
+    }
+
     /// The address that is due; the unit count once the picture is complete.
     pub fn due(&self) -> u64 {
         self.due

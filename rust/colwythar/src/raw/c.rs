@@ -1,5 +1,7 @@
 //! The functions of `include/colwythar.h`. A pointer to settings says how many they are.
 
+use crate::Account;
+
 /// Declares the functions that both codings have, with this number of settings.
 macro_rules! functions {
     ($count:literal, $read_unit:ident, $write_flags:ident, $unit_count:ident, $open:ident, $unit:ident) => {
@@ -75,4 +77,19 @@ extern "C" {
         second_len: usize,
         answer: *mut u64,
     );
+    pub fn colwythar_grant(
+        settings: *const [u32; 8],
+        due: *mut u64,
+        address: u64,
+        flags: *const u8,
+        flags_len: usize,
+        rows: *mut u8,
+        rows_len: usize,
+        accounts: *mut Account,
+        accounts_len: usize,
+        camera: u64,
+        limit: u64,
+        answer: *mut u64,
+    );
+    pub fn colwythar_new_period(accounts: *mut Account, accounts_len: usize);
 }

@@ -1,6 +1,9 @@
 //! Calls of the C interface with slices in place of pointers. A coding has `N` settings, and its
 //! functions are called with no other number of them.
 
+use super::Claim;
+use crate::Account;
+
 /// A function that takes flags or rows of a unit, and a lent buffer.
 pub type OnUnit<const N: usize> =
     unsafe extern "C" fn(*const [u32; N], u64, *const u8, usize, *mut u8, usize, *mut u64);
@@ -26,6 +29,25 @@ pub type Unit<const N: usize> = unsafe extern "C" fn(
     usize,
     *mut u64,
 );
+
+/// A function that reads a unit of a session where the accounts grant it.
+pub type Grant<const N: usize> = unsafe extern "C" fn(
+    *const [u32; N],
+    *mut u64,
+    u64,
+    *const u8,
+    usize,
+    *mut u8,
+    usize,
+    *mut Account,
+    usize,
+    u64,
+    u64,
+    *mut u64,
+);
+
+/// A function of accounts alone.
+pub type OnAccounts = unsafe extern "C" fn(*mut Account, usize);
 
 #[inline(always)]
 pub fn on_unit<const N: usize>(
@@ -117,4 +139,42 @@ pub fn unit<const N: usize>(
         );
     }
     answer
+}
+
+#[inline(always)]
+pub fn grant<const N: usize>(
+    function: Grant<N>,
+    settings: &[u32; N],
+    due: &mut u64,
+    address: u64,
+    flags: &[u8],
+    rows: &mut [u8],
+    claim: Claim,
+) -> [u64; 2] {
+    let Claim { accounts, camera, limit } = claim;
+    let mut answer = [0; 2];
+    // SAFETY: as in `on_unit`; `due` and the accounts are borrowed alone, and an account is laid out as in C.
+    unsafe {
+        function(
+            settings,
+            due,
+            address,
+            flags.as_ptr(),
+            flags.len(),
+            rows.as_mut_ptr(),
+            rows.len(),
+            accounts.as_mut_ptr(),
+            accounts.len(),
+            camera,
+            limit,
+            answer.as_mut_ptr(),
+        );
+    }
+    answer
+}
+
+#[inline(always)]
+pub fn on_accounts(function: OnAccounts, accounts: &mut [Account]) {
+    // SAFETY: as in `grant`.
+    unsafe { function(accounts.as_mut_ptr(), accounts.len()) };
 }

@@ -19,6 +19,8 @@ mod c;
 mod calls;
 pub mod h265;
 
+use crate::Account;
+
 /// `colwythar_read_unit`.
 #[inline]
 pub fn read_unit(settings: &[u32; 8], address: u64, flags: &[u8], rows: &mut [u8]) -> [u64; 2] {
@@ -73,4 +75,47 @@ pub fn unit(
     rows: &mut [u8],
 ) -> [u64; 2] {
     calls::unit(c::colwythar_unit, settings, due, address, flags, rows)
+}
+
+/// What a grant takes besides the unit call.
+#[derive(Debug)]
+pub struct Claim<'a> {
+    /// The accounts, one for each camera.
+    pub accounts: &'a mut [Account],
+    /// Which of them is the camera's, counted from 0.
+    pub camera: u64,
+    /// The rows that the cameras share in a period.
+    pub limit: u64,
+}
+
+/// `colwythar_grant`. An accepted call moves `due` on and adds its rows to those that the camera used.
+///
+/// ```
+/// use colwythar::{raw, Account};
+///
+/// let settings = [64, 4, 8, 3, 32, 32, 64, 64];
+/// let mut accounts = [Account { share: 2, used: 1 }, Account { share: 3, used: 4 }];
+/// let (mut due, mut rows) = (0, [0; 8]);
+/// let claim = raw::Claim { accounts: &mut accounts, camera: 0, limit: 6 };
+/// assert_eq!(raw::grant(&settings, &mut due, 0, &[0], &mut rows, claim), [0, 1]);
+/// assert_eq!((due, accounts[0].used), (1, 2));
+/// raw::new_period(&mut accounts);
+/// assert_eq!(accounts[1], Account { share: 3, used: 0 });
+/// ```
+#[inline]
+pub fn grant(
+    settings: &[u32; 8],
+    due: &mut u64,
+    address: u64,
+    flags: &[u8],
+    rows: &mut [u8],
+    claim: Claim,
+) -> [u64; 2] {
+    calls::grant(c::colwythar_grant, settings, due, address, flags, rows, claim)
+}
+
+/// `colwythar_new_period`.
+#[inline]
+pub fn new_period(accounts: &mut [Account]) {
+    calls::on_accounts(c::colwythar_new_period, accounts);
 }

@@ -1,5 +1,6 @@
 //! Tests of the engine through its wrapper; what is expected was written down by hand.
 
+mod bank;
 mod compare;
 mod h265;
 mod page;

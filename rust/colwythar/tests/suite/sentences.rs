@@ -7,7 +7,7 @@ use colwythar::Refusal;
 
 #[test]
 fn all_numbers_differ() {
-    let numbers: Vec<u64> = (1..=17).chain(20..=23).chain([27, 28, 34, 35]).collect();
+    let numbers: Vec<u64> = (1..=17).chain(20..=23).chain([27, 28]).chain(34..=38).collect();
     let sentence = |&number: &u64| {
         let refusal: Box<dyn Error> = Box::new(Refusal { number, place: 5 });
         let text = refusal.to_string();
@@ -22,7 +22,7 @@ fn all_numbers_differ() {
 
 #[test]
 fn places_are_named() {
-    for number in [11, 12, 13, 14, 15, 16, 17, 21, 23, 27, 28] {
+    for number in [11, 12, 13, 14, 15, 16, 17, 21, 23, 27, 28, 36] {
         let text = Refusal { number, place: 4711 }.to_string();
         assert!(text.contains("4711"), "{text}");
     }
@@ -43,6 +43,8 @@ fn sentences_that_say_a_limit_or_a_place() {
         (28, 4, "refusal 28: too many rows, the first that is too many is row 4, counted from 0"),
         (34, 0, "refusal 34: the CTU side is not 16, 32 or 64"),
         (35, 0, "refusal 35: MinCb is no power of two from 8 to the CTU side"),
+        (36, 7, "refusal 36: only 7 rows could be had for this camera"),
+        (37, 0, "refusal 37: the camera has no account"),
     ];
     for (number, place, sentence) in sentences {
         assert_eq!(Refusal { number, place }.to_string(), sentence);
