@@ -6,12 +6,13 @@
 //! walks the tree, so that it can be held beside the clauses. It is the other side of the
 //! differential tests and, as safe Rust without special tricks, the yardstick of the benchmark.
 //! [`Board`], which takes tables as the customer's board does, [`page()`], the partition page,
-//! [`stop()`], which says where a table stops being a tree, and [`compare()`], which says whether one
-//! of two tables is finer, are written from the paragraphs of document 02 that ask for them.
+//! [`stop()`], which says where a table stops being a tree, [`compare()`], which says whether one of two
+//! tables is finer, and [`Bank`], which grants rows to cameras, are written from the paragraphs of
+//! document 02 that ask for them.
 //!
 //! The calls make the same promises as the engine's C interface. An answer is a pair: 0 and a
 //! count where the call is accepted, else the number of the refusal and its place. A refused call
-//! leaves every buffer as it was, and bytes past the answer are never touched.
+//! leaves every buffer, session and account as it was, and bytes past the answer are never touched.
 //!
 //! ```
 //! // CTU side, MinCb, MinQt, greatest multi-type depth, MaxBt, MaxTt, width, height
@@ -28,6 +29,7 @@
 #![warn(missing_docs)]
 
 mod allowed;
+mod bank;
 mod board;
 pub mod check;
 mod compare;
@@ -46,6 +48,7 @@ mod worth;
 mod write;
 
 pub use allowed::Allowed;
+pub use bank::{Account, Bank};
 pub use board::{Board, BoardFault, PipelineUnit};
 pub use compare::compare;
 pub use node::Node;

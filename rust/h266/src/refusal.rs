@@ -6,7 +6,7 @@ pub type Answer = (u64, u64);
 /// Why a call is not accepted.
 #[derive(Clone, Copy, Debug, PartialEq, Eq)]
 pub struct Refusal {
-    /// 1 to 17, 20 to 23, 27 or 28.
+    /// 1 to 17, 20 to 23, 27, 28 or 36 to 38.
     pub number: u64,
     /// Where or how much, according to the number.
     pub place: u64,

@@ -1,5 +1,6 @@
 //! Tests of the second decoder; they need no engine.
 
+mod bank;
 mod board;
 mod compare;
 mod exhaustive;
