@@ -103,7 +103,7 @@ impl<S: Coding> Engine<S> {
 
 /// The rows of an accepted reading stay in pipeline units and come one such unit after the other,
 /// and had no more flags than is planned.
-fn assert_read<S: Coding>(settings: &S, flags: &[u8], outcome: &Outcome) {
+pub(crate) fn assert_read<S: Coding>(settings: &S, flags: &[u8], outcome: &Outcome) {
     assert_in_pipeline(settings, &outcome.written);
     if outcome.number == 0 {
         assert_in_order(settings, &outcome.written);

@@ -11,7 +11,8 @@
 //! units with the most flags. Tables are also cut, go on after their end, and have rows changed,
 //! exchanged, left out and doubled. All tables of H.266 are also printed as pages, and most are compared
 //! with another table of the unit, in both orders; three tables of a unit, and all of small ones, are
-//! held to the laws of finer. `tuned` has neither pages nor comparisons.
+//! held to the laws of finer. Lists of calls on banks of cameras are held to R-12's laws, and after each the
+//! accounts are equal, too. `tuned` has no pages, comparisons or grants.
 //!
 //! `h266` and `h265` share nothing with the engine, nor with each other. `tuned` takes from `h266` the
 //! check of the settings, the rules of open splits and where a refused table stops being a tree, and so
@@ -28,13 +29,17 @@
 #![forbid(unsafe_code)]
 #![warn(missing_docs)]
 
+mod accounts;
+pub mod banks;
 mod call;
 pub mod calls;
 mod coding;
 mod compare;
 pub mod comparisons;
 mod engine;
+mod grants;
 mod laws;
+mod ledger;
 mod lent;
 pub mod pages;
 pub mod sessions;
@@ -43,7 +48,7 @@ mod stops;
 mod tally;
 
 pub use call::Outcome;
-pub use coding::{Coding, OnTables, OnUnit, Opening, Side};
+pub use coding::{BankSide, Coding, OnBank, OnTables, OnUnit, Opening, Side};
 pub use engine::{Engine, UnitCall};
 pub use laws::Answers;
 pub use tally::{Entry, Tally};

@@ -2,7 +2,7 @@
 
 use std::process::ExitCode;
 
-use differential::{calls, sessions, Coding, Engine};
+use differential::{banks, calls, sessions, Coding, Engine};
 use samples::Rng;
 
 const USAGE: &str = "usage: differential [calls of each coding, default 1000000] [seed, default 1]";
@@ -33,6 +33,7 @@ fn compare<S: Coding>(name: &str, wanted: u64, seed: u64) {
         calls::round(&mut engine, &mut rng);
         if rounds.is_multiple_of(8) {
             sessions::picture(&mut engine, &mut rng);
+            banks::list(&mut engine, &mut rng);
         }
         rounds += 1;
     }

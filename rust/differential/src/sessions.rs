@@ -41,7 +41,7 @@ pub fn whole<S: Coding>(engine: &mut Engine<S>, rng: &mut Rng, settings: S) {
 }
 
 /// Settings of a picture that is read quickly.
-fn small_picture<S: Coding>(rng: &mut Rng) -> S {
+pub(crate) fn small_picture<S: Coding>(rng: &mut Rng) -> S {
     loop {
         let settings = S::valid(rng);
         if settings.unit_count() <= MOST_UNITS {
@@ -51,13 +51,13 @@ fn small_picture<S: Coding>(rng: &mut Rng) -> S {
 }
 
 /// A call that has to be accepted when its address is due.
-fn legal<S: Coding>(rng: &mut Rng, settings: &S, address: u64) -> UnitCall {
+pub(crate) fn legal<S: Coding>(rng: &mut Rng, settings: &S, address: u64) -> UnitCall {
     let flags = settings.any_flags(address, rng);
     UnitCall { address, flags, room: ROOM }
 }
 
 /// The same call with something wrong; by chance it may still be legal.
-fn disturbed(rng: &mut Rng, call: &UnitCall, count: u64) -> UnitCall {
+pub(crate) fn disturbed(rng: &mut Rng, call: &UnitCall, count: u64) -> UnitCall {
     let mut call = call.clone();
     match rng.below(4) {
         0 => call.address = rng.pick(&[0, call.address + 1, count, count + 1, u64::MAX]),

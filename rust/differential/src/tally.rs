@@ -8,7 +8,7 @@ use h266::Answer;
 use crate::Coding;
 
 /// One above the greatest number of a refusal.
-const NUMBERS: usize = 36;
+const NUMBERS: usize = 39;
 
 /// The functions of the engine.
 #[derive(Clone, Copy, Debug, PartialEq, Eq)]
@@ -27,12 +27,25 @@ pub enum Entry {
     Count,
     /// A unit of a session.
     Unit,
+    /// A unit of a camera of a bank.
+    Grant,
+    /// A new period of a bank.
+    NewPeriod,
 }
 
 impl Entry {
     /// All of them.
-    pub const ALL: [Self; 7] =
-        [Self::Read, Self::Write, Self::Page, Self::Compare, Self::Open, Self::Count, Self::Unit];
+    pub const ALL: [Self; 9] = [
+        Self::Read,
+        Self::Write,
+        Self::Page,
+        Self::Compare,
+        Self::Open,
+        Self::Count,
+        Self::Unit,
+        Self::Grant,
+        Self::NewPeriod,
+    ];
 
     /// The refusals that this function of a coding can give.
     pub fn numbers<S: Coding>(self) -> Vec<usize> {
@@ -43,6 +56,8 @@ impl Entry {
             Self::Compare => &[10, 15, 16, 27, 28],
             Self::Open | Self::Count => &[],
             Self::Unit => return vec![11, 12, 13, 14, 20, 21, 22],
+            Self::Grant => return vec![11, 12, 13, 14, 20, 21, 22, 36, 37, 38],
+            Self::NewPeriod => return Vec::new(),
         };
         [S::FAULTS, own].concat()
     }
@@ -54,13 +69,15 @@ pub struct Tally<S> {
     answers: [[u64; NUMBERS]; Entry::ALL.len()],
     /// Accepted comparisons by what they answered.
     finer: [u64; 4],
+    /// Grants that drew on the common part, and grants of more rows than it had left.
+    granted: [u64; 2],
     coding: PhantomData<S>,
 }
 
 impl<S: Coding> Default for Tally<S> {
     fn default() -> Self {
         let answers = [[0; NUMBERS]; Entry::ALL.len()];
-        Self { answers, finer: [0; 4], coding: PhantomData }
+        Self { answers, finer: [0; 4], granted: [0; 2], coding: PhantomData }
     }
 }
 
@@ -84,6 +101,19 @@ impl<S: Coding> Tally<S> {
         if number == 0 {
             self.finer[value as usize] += 1;
         }
+    }
+
+    /// Counts where the rows of a grant were from: whether it drew on the common part, and whether it had
+    /// more rows than that had left, so that it needed its share.
+    pub fn count_grant(&mut self, drew: bool, needed_share: bool) {
+        let [common, share] = &mut self.granted;
+        *common += u64::from(drew);
+        *share += u64::from(needed_share);
+    }
+
+    /// How many grants drew on the common part, and how many needed their share.
+    pub fn granted(&self) -> [u64; 2] {
+        self.granted
     }
 
     /// How often comparisons answered 0, 1, 2 and 3.
@@ -110,6 +140,9 @@ impl<S: Coding> Tally<S> {
         if entry == Entry::Compare {
             assert!(self.finer.iter().all(|&times| times >= least), "{self}");
         }
+        if entry == Entry::Grant {
+            assert!(self.granted.iter().all(|&times| times >= least), "{self}");
+        }
         for number in [vec![0], entry.numbers::<S>()].concat() {
             let times = self.of(entry, number);
             assert!(times >= least, "{entry:?} answered {number} only {times} times:\n{self}");
@@ -128,7 +161,13 @@ impl<S: Coding> fmt::Display for Tally<S> {
                 let [equal, first, second, neither] = self.finer;
                 write!(f, " (equal {equal}, first {first}, second {second}, neither {neither})")?;
             }
-            write!(f, "; refused")?;
+            if entry == Entry::Grant {
+                let [common, share] = self.granted;
+                write!(f, " ({common} from the common part, {share} that needed their share)")?;
+            }
+            if entry != Entry::NewPeriod {
+                write!(f, "; refused")?;
+            }
             for number in entry.numbers::<S>() {
                 write!(f, " {number}: {}", self.of(entry, number))?;
             }

@@ -3,7 +3,8 @@
 //! Settings, legal trees of several styles, and damage to flags and tables come from a small
 //! generator with a fixed seed, so that every run sees the same inputs; `broken` lists every table
 //! that one small change makes of another, `small` settings with few trees, `brute` all trees of a
-//! small unit, `near` tables near theirs, and `relatives` trees that changes make of others. The
+//! small unit, `near` tables near theirs, `relatives` trees that changes make of others, and `banks` the
+//! accounts of cameras. The
 //! examples are those of document 01, the units with the most flags, one with the deepest rows, and the
 //! broken table that is the hardest to refuse. Trees are walked with the allowed splits of the crate
 //! `h266`, and `quads` has settings and trees of H.265, with the crate `h265`; the engine is not needed
@@ -20,6 +21,7 @@
 #![forbid(unsafe_code)]
 #![warn(missing_docs)]
 
+pub mod banks;
 pub mod broken;
 pub mod brute;
 pub mod damage;

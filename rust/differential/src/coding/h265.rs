@@ -4,7 +4,7 @@ use colwythar::raw;
 use samples::relatives::Change;
 use samples::{quads, Rng};
 
-use super::{Coding, OnTables, OnUnit, Opening, Side};
+use super::{BankSide, Coding, OnTables, OnUnit, Opening, Side};
 
 impl Coding for h265::Settings {
     const SIDES: &[Side<Self>] = &[
@@ -24,6 +24,7 @@ impl Coding for h265::Settings {
     ];
     const PAGES: &[OnUnit<Self>] = &[];
     const COMPARISONS: &[OnTables<Self>] = &[];
+    const BANKS: &[BankSide<Self>] = &[];
     const FAULTS: &[usize] = &quads::FAULTS;
     type Style = usize;
     const STYLES: &[usize] = &quads::STYLES;

@@ -1,10 +1,12 @@
 //! H.266: the engine, `h266` and `tuned`.
 
 use colwythar::raw;
+use h266::Bank;
 use samples::relatives::{self, Change};
 use samples::{settings, trees, Rng, Style};
 
-use super::{Coding, OnTables, OnUnit, Opening, Side};
+use super::{BankSide, Coding, OnTables, OnUnit, Opening, Side};
+use crate::accounts;
 
 impl Coding for h266::Settings {
     const SIDES: &[Side<Self>] = &[
@@ -24,6 +26,10 @@ impl Coding for h266::Settings {
         &[|s, at, rows, lent| raw::page(s, at, rows, lent).into(), h266::page];
     const COMPARISONS: &[OnTables<Self>] =
         &[|s, at, first, second| raw::compare(s, at, first, second).into(), h266::compare];
+    const BANKS: &[BankSide<Self>] = &[
+        BankSide { grant: accounts::grant, new_period: accounts::new_period },
+        BankSide { grant: Bank::grant, new_period: Bank::new_period },
+    ];
     const FAULTS: &[usize] = &[1, 2, 3, 4, 5, 6, 7, 8, 9];
     type Style = Style;
     const STYLES: &[Style] = &Style::ALL;

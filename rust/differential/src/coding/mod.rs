@@ -5,7 +5,7 @@ mod h266;
 
 use std::fmt::Debug;
 
-use ::h266::Answer;
+use ::h266::{Answer, Bank};
 use samples::relatives::Change;
 use samples::Rng;
 
@@ -25,6 +25,17 @@ pub type OnUnit<S> = fn(&S, u64, &[u8], &mut [u8]) -> Answer;
 /// A call on two tables of the unit at an address.
 pub type OnTables<S> = fn(&S, u64, &[u8], &[u8]) -> Answer;
 
+/// A call of a camera of a bank: its session, the address named, the flags given, and the lent buffer.
+pub type OnBank<S> = fn(&mut Bank, u64, &S, &mut u64, u64, &[u8], &mut [u8]) -> Answer;
+
+/// The calls of one side on a bank of cameras.
+pub struct BankSide<S> {
+    /// A unit of a camera's session.
+    pub grant: OnBank<S>,
+    /// A new period.
+    pub new_period: fn(&mut Bank),
+}
+
 /// The calls of one side on settings.
 pub struct Opening<S> {
     /// Opens a session.
@@ -43,6 +54,8 @@ pub trait Coding: Copy + Debug + Sized + 'static {
     const PAGES: &[OnUnit<Self>];
     /// Those that compare tables; H.265 has no comparison.
     const COMPARISONS: &[OnTables<Self>];
+    /// Those that grant units to cameras; H.265 has no grant.
+    const BANKS: &[BankSide<Self>];
     /// The refusals of settings, in the order of the checks.
     const FAULTS: &[usize];
     /// What kind of tree to grow.

@@ -1,6 +1,7 @@
 //! The engine against `h266` and `tuned`, and for H.265 against `h265`: at least 200,000 calls on each,
 //! with fixed seeds.
 
+mod banks;
 mod comparisons;
 mod h265;
 mod pages;

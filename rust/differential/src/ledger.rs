@@ -1,0 +1,64 @@
+//! R-12's laws, over calls on one list of accounts.
+
+use h266::{Account, Bank};
+
+use crate::Outcome;
+
+/// What the laws need to know of the calls on a bank since its last new period.
+#[derive(Debug, Default)]
+pub struct Ledger {
+    /// The rows of the tables granted, if there was a new period and calls alone changed the accounts.
+    granted: Option<u64>,
+}
+
+/// The sum of these numbers of all accounts.
+fn sum(bank: &Bank, number: impl Fn(&Account) -> u32) -> u128 {
+    bank.accounts.iter().map(|account| u128::from(number(account))).sum()
+}
+
+/// The rows reserved for all cameras.
+pub(crate) fn shares(bank: &Bank) -> u128 {
+    sum(bank, |account| account.share)
+}
+
+/// The rows that are drawn from the common part.
+pub(crate) fn drawn(bank: &Bank) -> u128 {
+    sum(bank, |account| account.used - account.used.min(account.share))
+}
+
+impl Ledger {
+    /// After a new period.
+    pub fn new_period(&mut self) {
+        self.granted = Some(0);
+    }
+
+    /// Somebody else changed the accounts.
+    pub fn overwritten(&mut self) {
+        self.granted = None;
+    }
+
+    /// Asserts the laws of a grant: of its outcome and the banks before and after it. `rows` are those of the
+    /// table, where the unit call alone gives one.
+    pub fn grant(
+        &mut self,
+        camera: u64,
+        rows: Option<u64>,
+        outcome: &Outcome,
+        [before, after]: [&Bank; 2],
+    ) {
+        let Some(granted) = &mut self.granted else { return };
+        if outcome.number == 0 {
+            *granted += outcome.value;
+        }
+        let total = sum(after, |account| account.used);
+        assert_eq!(total, (*granted).into(), "the rows granted to {after:?}");
+        assert!(total <= after.limit.into(), "the limit of {after:?}");
+        let account = before.accounts.get(camera as usize);
+        let unused = account.map(|account| account.share - account.share.min(account.used));
+        let is_within = rows.zip(unused).is_some_and(|(rows, unused)| rows <= unused.into());
+        if is_within && shares(before) <= before.limit.into() {
+            let number = outcome.number;
+            assert!(number != 36 && number != 38, "{number} within a share: {before:?} {camera}");
+        }
+    }
+}
