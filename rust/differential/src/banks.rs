@@ -71,7 +71,7 @@ impl<S: Coding> Cameras<S> {
 
     fn new_period(&mut self, engine: &mut Engine<S>) {
         engine.new_period(&mut self.bank);
-        self.ledger.new_period();
+        self.ledger.new_period(&self.bank);
     }
 
     fn overwrite(&mut self, rng: &mut Rng) {

@@ -36,32 +36,40 @@ impl<S: Coding> Engine<S> {
         let input = || format!("grant {s:?}, due and bank {before:?}, camera {camera}, {call:?}");
         let made = Call { entry: Entry::Grant, size: 8, room: *room };
         let outcome = made.make(&mut self.tally, rng, S::BANKS, grant, input);
-        if outcome.number == 0 {
-            *due += 1;
-            bank.accounts[camera as usize].used += outcome.value as u32;
-            let left = u128::from(bank.limit) - shares(bank) - drawn(&before.1);
-            let drew = drawn(bank) > drawn(&before.1);
-            self.tally.count_grant(drew, u128::from(outcome.value) > left);
-        }
-        let expected = (*due, bank.clone());
-        after.iter().for_each(|after| assert_eq!(*after, expected, "after {}", input()));
+        let [engine, second] = &after[..] else { panic!("the engine and a second decoder") };
+        assert_eq!(engine, second, "due and bank after {}", input());
+        (*due, *bank) = second.clone();
+        assert_eq!(*due, before.0 + u64::from(outcome.number == 0), "due after {}", input());
+        assert!(
+            outcome.number == 0 || *bank == before.1,
+            "a refusal changed {bank:?}: {}",
+            input()
+        );
+        self.count_grant(&before.1, bank, &outcome);
         assert_read(s, flags, &outcome);
         outcome
     }
 
-    /// A new period of a bank, after which nothing is used, and the shares are as they were.
+    /// Counts where the rows of a granted table were from.
+    fn count_grant(&mut self, before: &Bank, after: &Bank, outcome: &Outcome) {
+        if outcome.number == 0 {
+            let left = u128::from(before.limit) - shares(before) - drawn(before);
+            let drew = drawn(after) > drawn(before);
+            self.tally.count_grant(drew, u128::from(outcome.value) > left);
+        }
+    }
+
+    /// A new period of a bank.
     ///
     /// # Panics
     ///
     /// Where the coding has no banks, too.
     pub fn new_period(&mut self, bank: &mut Bank) {
-        let before = bank.clone();
-        bank.accounts.iter_mut().for_each(|account| account.used = 0);
-        for side in S::BANKS {
-            let mut after = before.clone();
-            (side.new_period)(&mut after);
-            assert_eq!(after, *bank, "a new period of {before:?}");
-        }
+        let [engine, second] = S::BANKS else { panic!("the engine and a second decoder") };
+        let (before, mut other) = (bank.clone(), bank.clone());
+        (second.new_period)(bank);
+        (engine.new_period)(&mut other);
+        assert_eq!(other, *bank, "after a new period of {before:?}");
         self.tally.count(Entry::NewPeriod, 0);
     }
 }

@@ -27,9 +27,10 @@ pub(crate) fn drawn(bank: &Bank) -> u128 {
 }
 
 impl Ledger {
-    /// After a new period.
-    pub fn new_period(&mut self) {
+    /// Asserts the law of a new period.
+    pub fn new_period(&mut self, after: &Bank) {
         self.granted = Some(0);
+        self.assert_total(after);
     }
 
     /// Somebody else changed the accounts.
@@ -50,9 +51,7 @@ impl Ledger {
         if outcome.number == 0 {
             *granted += outcome.value;
         }
-        let total = sum(after, |account| account.used);
-        assert_eq!(total, (*granted).into(), "the rows granted to {after:?}");
-        assert!(total <= after.limit.into(), "the limit of {after:?}");
+        self.assert_total(after);
         let account = before.accounts.get(camera as usize);
         let unused = account.map(|account| account.share - account.share.min(account.used));
         let is_within = rows.zip(unused).is_some_and(|(rows, unused)| rows <= unused.into());
@@ -60,5 +59,12 @@ impl Ledger {
             let number = outcome.number;
             assert!(number != 36 && number != 38, "{number} within a share: {before:?} {camera}");
         }
+    }
+
+    /// Total use equals the rows granted, and does not exceed the limit.
+    fn assert_total(&self, bank: &Bank) {
+        let total = sum(bank, |account| account.used);
+        assert_eq!(Some(total), self.granted.map(u128::from), "the rows granted to {bank:?}");
+        assert!(total <= bank.limit.into(), "more is used than the limit: {bank:?}");
     }
 }
