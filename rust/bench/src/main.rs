@@ -10,6 +10,7 @@ mod broken;
 mod callgrind;
 mod camera;
 mod classes;
+mod grants;
 mod quads;
 mod search;
 mod timing;
@@ -22,13 +23,14 @@ usage: bench
        bench callgrind WORK CLASS CALLS
        bench search SECONDS SEED
 
-Without arguments: times reading, the way back, the page and the comparison for five classes of
-units, the refusal of broken tables, a worst-case second of four cameras, and units in H.265, and
-prints Markdown tables. Each side is warmed up; the sides take turns within each round, and the best
-round counts.
+Without arguments: times reading, the way back, the page, the comparison and the grant for five
+classes of units, the refusal of broken tables, a worst-case second of four cameras, and units in
+H.265, and prints Markdown tables. Each side is warmed up; the sides take turns within each round,
+and the best round counts.
 
 callgrind: makes CALLS calls of one kind, without a clock. WORK is a side (engine, h266 or
 tuned) and a way (read, write, page or compare), like engine-read; tuned has no page and no compare.
+The engine also has unit, grant4 and grant8: the unit call, and granted by a bank of 4 or 8 cameras.
 CLASS is 1, mixed, 64, 1024 or quads. In H.265 a side is engine or h265, a way read or write, and
 CLASS h265-1 or h265-64. Calls go round the 256 units of the class, so a multiple of 256 weighs them
 equally.
@@ -53,6 +55,7 @@ fn main() -> ExitCode {
             timing::print_table();
             timing::print_pages();
             timing::print_comparisons();
+            grants::print_table();
             broken::print_refusals();
             camera::print_second();
             quads::print_table();

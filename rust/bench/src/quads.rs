@@ -58,7 +58,7 @@ fn unit(address: u64, flags: &[u8]) -> Unit<Settings> {
     Unit { settings: RECORDER, address, flags: flags.to_vec(), rows, other: Vec::new() }
 }
 
-/// The sides' names and work; there are no pages, and no comparisons.
+/// The sides' names and work; there are no pages, comparisons and grants, and unit calls are not timed.
 pub fn works(way: Way) -> Option<[(&'static str, Work<Settings>); 2]> {
     let calls: [Call<Settings>; 2] = match way {
         Way::Read => [
@@ -69,7 +69,7 @@ pub fn works(way: Way) -> Option<[(&'static str, Work<Settings>); 2]> {
             |u, lent| raw::h265::write_flags(&u.settings, u.address, &u.rows, lent).into(),
             |u, lent| h265::write_flags(&u.settings, u.address, &u.rows, lent),
         ],
-        Way::Page | Way::Compare => return None,
+        Way::Page | Way::Compare | Way::Unit | Way::Grant4 | Way::Grant8 => return None,
     };
     let [engine, h265] = calls.map(|call| Work { call, room: way.room() });
     Some([("engine", engine), ("h265", h265)])

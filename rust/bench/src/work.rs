@@ -5,6 +5,7 @@ use std::hint::black_box;
 use colwythar::{raw, MAX_PAGE_BYTES};
 
 use crate::classes::{Unit, ROOM};
+use crate::grants;
 
 /// Which decoder.
 #[derive(Clone, Copy, PartialEq, Eq)]
@@ -33,10 +34,24 @@ pub enum Way {
     Write,
     Page,
     Compare,
+    /// The unit call.
+    Unit,
+    /// The unit call granted by a bank of 4 cameras.
+    Grant4,
+    /// The unit call granted by a bank of 8 cameras.
+    Grant8,
 }
 
 impl Way {
-    pub const ALL: [Self; 4] = [Self::Read, Self::Write, Self::Page, Self::Compare];
+    pub const ALL: [Self; 7] = [
+        Self::Read,
+        Self::Write,
+        Self::Page,
+        Self::Compare,
+        Self::Unit,
+        Self::Grant4,
+        Self::Grant8,
+    ];
 
     pub fn name(self) -> &'static str {
         match self {
@@ -44,6 +59,9 @@ impl Way {
             Self::Write => "write",
             Self::Page => "page",
             Self::Compare => "compare",
+            Self::Unit => "unit",
+            Self::Grant4 => "grant4",
+            Self::Grant8 => "grant8",
         }
     }
 
@@ -53,13 +71,16 @@ impl Way {
             Self::Write => "way back",
             Self::Page => "page",
             Self::Compare => "comparison",
+            Self::Unit => "unit call",
+            Self::Grant4 => "grant, 4 cameras",
+            Self::Grant8 => "grant, 8 cameras",
         }
     }
 
     /// Room for what any unit gives.
     pub fn room(self) -> usize {
         match self {
-            Self::Read | Self::Write => ROOM,
+            Self::Read | Self::Write | Self::Unit | Self::Grant4 | Self::Grant8 => ROOM,
             Self::Page => MAX_PAGE_BYTES,
             Self::Compare => 0,
         }
@@ -79,7 +100,7 @@ pub struct Work<S = h266::Settings> {
 
 impl Work {
     /// The work of one side and way, where the side has this way: `tuned` has no pages, and compares
-    /// nothing.
+    /// nothing, and only the engine's unit calls and grants are timed.
     pub fn of(side: Side, way: Way) -> Option<Self> {
         Some(Self { call: call(side, way)?, room: way.room() })
     }
@@ -116,7 +137,11 @@ fn call(side: Side, way: Way) -> Option<Call> {
         (Side::Tuned, Way::Write) => {
             |u, lent| tuned::write_flags(&u.settings, u.address, &u.rows, lent)
         }
+        (Side::Engine, Way::Unit) => grants::unit,
+        (Side::Engine, Way::Grant4) => grants::grant::<4>,
+        (Side::Engine, Way::Grant8) => grants::grant::<8>,
         (Side::Tuned, Way::Page | Way::Compare) => return None,
+        (_, Way::Unit | Way::Grant4 | Way::Grant8) => return None,
     })
 }
 
