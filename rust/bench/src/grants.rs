@@ -11,7 +11,7 @@ use crate::work::{Side, Way, Work};
 /// The most cameras of a bank here.
 const MOST: usize = 8;
 
-/// So much that no unit is refused, and no period has to end.
+/// So much that no unit is refused without a new period.
 const LIMIT: u64 = 1 << 40;
 
 thread_local! {
@@ -22,10 +22,8 @@ thread_local! {
 
 /// Prints a line for each class.
 pub fn print_table() {
-    println!(
-        "\nThe unit call of the same units by a session alone, and granted by a bank of 4 and of 8"
-    );
-    println!("cameras, which take turns; the engine, nanoseconds, as above.\n");
+    println!("\nThe unit call of the same units on a session alone, and granted to a camera of a");
+    println!("bank of 4 and of 8; the engine, nanoseconds, as above.\n");
     print!("| units | rows | unit call | grant, 4 cameras | grant, 8 cameras |");
     println!(" 4 cameras/unit call | 8 cameras/unit call |");
     println!("|---|--:|--:|--:|--:|--:|--:|");
@@ -49,7 +47,7 @@ pub fn unit(unit: &Unit, lent: &mut [u8]) -> (u64, u64) {
     raw::unit(&unit.settings, &mut due, unit.address, &unit.flags, lent).into()
 }
 
-/// The same, granted by a bank of so many cameras.
+/// The same, granted by a bank of so many cameras to one of them, by the address.
 pub fn grant<const CAMERAS: usize>(unit: &Unit, lent: &mut [u8]) -> (u64, u64) {
     let mut due = unit.address;
     ACCOUNTS.with_borrow_mut(|accounts| {
