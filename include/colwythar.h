@@ -130,7 +130,7 @@ extern "C" {
 /* A grant: 37 and 38, then the unit call's, then 36. */
 #define COLWYTHAR_NOT_GRANTED       36 /* more rows than could be had; place: the rows that could */
 #define COLWYTHAR_NO_ACCOUNT        37 /* the camera has no account */
-#define COLWYTHAR_BAD_ACCOUNTS      38 /* the shares exceed the limit, or more is drawn than the common part has */
+#define COLWYTHAR_BAD_ACCOUNTS      38 /* the shares exceed the limit, or the common part is overdrawn */
 
 /* Reads the flags of the unit at an address into the row buffer. Answers the number of rows, or 1 to 14. */
 void colwythar_read_unit(const uint32_t settings[8], uint64_t address, const uint8_t *flags, size_t flags_len,
@@ -175,11 +175,11 @@ typedef struct {
     uint32_t used;  /* the rows of the tables granted to it in this period */
 } colwythar_account;
 
-/* The unit call of a camera of a bank: as colwythar_unit, but the table is granted only where it has at most as many rows as
- * could be had. These are the camera's unused share and what is left of the common part, but no more than its count of used
- * rows can still take, up to 4,294,967,295; that is never less where the limit itself is no greater. A granted table is
- * added to the camera's used rows. Answers the number of rows, or 37 and 38, then 22, 20, 21 and 11 to 14, then 36. Any
- * number of accounts with any numbers in them is taken, and any limit; sums don't wrap.
+/* The unit call of a camera of a bank, counted from 0: as colwythar_unit, but the table is granted only where it has no more
+ * rows than could be had. These are the camera's unused share and what is left of the common part; where the limit is above
+ * 4,294,967,295, they are also at most that number less the used rows, which are counted no further. A granted table's rows
+ * are added to the used ones. Answers the number of rows, or 37 and 38, then 22, 20, 21 and 11 to 14, then 36. Any number of
+ * accounts with any numbers in them is taken, and any limit; sums don't wrap.
  *
  * Proved of all calls on one list with one limit that begin with a new period and alone change the list:
  * - the used rows of all cameras are together the rows of the tables granted since the last new period;

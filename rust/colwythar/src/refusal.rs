@@ -81,7 +81,7 @@ impl Refusal {
             34 => "the CTU side is not 16, 32 or 64",
             35 => "MinCb is no power of two from 8 to the CTU side",
             37 => "the camera has no account",
-            38 => "the shares exceed the limit, or more is drawn than the common part has",
+            38 => "the shares exceed the limit, or the common part is overdrawn",
             _ => "the engine gave an unknown number",
         }
     }

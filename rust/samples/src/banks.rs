@@ -4,7 +4,7 @@ use h266::{Account, Bank};
 
 use crate::Rng;
 
-/// About as many rows as shares have: few beside the rows of a unit, or more, or as many as there are.
+/// How many rows a share has at most: fewer than most units, more than most, or any number.
 const SCALES: [u32; 5] = [4, 30, 200, 1_500, u32::MAX];
 
 /// A bank of 0 to 8 cameras. Its numbers are mostly small, now and then the greatest; mostly the shares

@@ -45,6 +45,7 @@ fn sentences_that_say_a_limit_or_a_place() {
         (35, 0, "refusal 35: MinCb is no power of two from 8 to the CTU side"),
         (36, 7, "refusal 36: only 7 rows could be had for this camera"),
         (37, 0, "refusal 37: the camera has no account"),
+        (38, 0, "refusal 38: the shares exceed the limit, or the common part is overdrawn"),
     ];
     for (number, place, sentence) in sentences {
         assert_eq!(Refusal { number, place }.to_string(), sentence);

@@ -51,12 +51,13 @@ fn every_small_bank() {
     }
     let tally = &engine.tally;
     println!("{tally}");
+    let of = |number| tally.of(Entry::Grant, number);
     // 400 lists, 9 limits, 4 units, 2 buffers; the third camera has no account.
-    assert_eq!(tally.of(Entry::Grant, 37), 400 * 9 * 4 * 2);
-    // Of the others, each unit with a short buffer gets 14 or 38.
-    for number in [0, 14, 36, 38] {
-        assert!(tally.of(Entry::Grant, number) >= 1_000, "{tally}");
-    }
+    assert_eq!(of(37), 400 * 9 * 4 * 2, "{tally}");
+    // Of the others, 38 is the same for both buffers; else 14 for the short one, and 0 or 36 for the exact.
+    assert_eq!(of(14) + of(38) / 2, 400 * 9 * 4 * 2, "{tally}");
+    assert_eq!(of(0) + of(36), of(14), "{tally}");
+    assert!([0, 14, 36, 38].map(of).iter().all(|&times| times >= 1_000), "{tally}");
 }
 
 /// 5,000 accounts of the greatest numbers: the sum of the shares, 21,474,836,475,000, just fits the limit or
