@@ -9,15 +9,18 @@ use lib.Dec.{leb, eqb}
 use lib.ListN.{length, take, drop}
 use borrow.Author.Tests.{lt-ltb, le-ltb}
 use Rattle.laws.proofs.Tests.{never}
+use Rattle.settings.proofs.Passed.{passed}
+use Rattle.settings.proofs.Grid.{gridded, count-most}
 use Rattle.unit.specs.declared.Answer.{Answer}
 use Rattle.unit.specs.declared.Answer.the-variants.{Accepted, Refused}
-use Rattle.unit.specs.Answers.{Outcome, refused}
+use Rattle.unit.specs.Answers.{Outcome, Meets, refused}
 use Rattle.unit.specs.Luma.{unitsOf}
 use Rattle.unit.proofs.Luma.{luma-sound}
 use Rattle.picture.specs.declared.Session.{Session}
 use Rattle.picture.specs.declared.Called.{Called}
 use Rattle.picture.specs.State.{Call, call, callIn, nextDue, Returns}
-use Rattle.picture.specs.Session.{unitCall, following, returned, Yields}
+use Rattle.picture.specs.Session.{unitCall, returned}
+use Rattle.picture.proofs.StateCalls.{accepted-here}
 use Rattle.bank.specs.declared.accounts.Account.{Account}
 use Rattle.bank.specs.declared.accounts.Left.{Left}
 use Rattle.bank.specs.declared.Granted.{Granted}
@@ -27,29 +30,42 @@ use Rattle.bank.proofs.Parts.{part-call}
 
 -- ---- the unit call within so many rows
 
--- a refusal stays one, so the session is the same
-judged-due : (due : ℕ) (answer : Answer) (room could : ℕ) → nextDue due (judged answer room could) ≡ nextDue due answer
-unfolding judged
-judged-due due (Accepted count) room could = refl
-judged-due due (Refused number place) room could = go (eqb number 14 && leb place (room / 8))
-  where
-    go : (t : Bool) → nextDue due (cond t (Refused 36 could) (Refused number place)) ≡ due
-    go true = refl
-    go false = refl
+-- an answer that is returned alone
+pub answered : {o : Outcome} {r : Answer} {left : List ℕ} → Returns (λ x. x) o r left → Meets o r left
+answered y = record { answers = y .returns; leaves = y .leaves }
 
-pub within-returns : (t : Session) (could address : ℕ) (flags b : List ℕ) {m : ℕ} → m ≡ min (length b) (8 * could) → {called : Called} {left : List ℕ}
-    → Yields t (call address flags (take m b)) called left → {answer : Answer} → answer ≡ judged (called .answer) (length b) could
-    → Returns (returned t) (within could b (unitCall t (call address flags b))) (record { session = called .session; answer = answer }) (left ++ drop m b)
-within-returns t could address flags b {m} is {called} {left} y {answer} e =
+-- the address due is small where a call is accepted
+pub judged-small : (t : Session) (c : Call) {said : Answer} {left : List ℕ} → Meets (unitCall t c) said left → (room could : ℕ) {answer : Answer} → answer ≡ judged said room could
+    → (count : ℕ) → answer ≡ Accepted count → t .due < 1048576
+unfolding judged
+judged-small t c {said} m room could e count i = go said (m .answers) (sym e ∙ i)
+  where
+    small : {n : ℕ} → unitCall t c .answer ≡ Accepted n → t .due < 1048576
+    small f =
+        let u = accepted-here (unitsOf (t .settings)) (t .due) c f .0 in
+        let w = count-most (gridded (passed (t .settings) (u .passed))) in
+        let l = u .below in
+        omega arith
+
+    by : (test : Bool) (number place : ℕ) → cond test (Refused 36 could) (Refused number place) ≡ Accepted count → t .due < 1048576
+    by true number place f = never (cc)
+    by false number place f = never (cc)
+
+    go : (x : Answer) → x ≡ unitCall t c .answer → judged x room could ≡ Accepted count → t .due < 1048576
+    go (Accepted n) f g = small (sym f)
+    go (Refused number place) f g = by (eqb number 14 && leb place (room / 8)) number place g
+
+pub within-returns : (t : Session) (could address : ℕ) (flags b : List ℕ) {m : ℕ} → m ≡ min (length b) (8 * could) → {said : Answer} {left : List ℕ}
+    → Meets (unitCall t (call address flags (take m b))) said left → {answer : Answer} → answer ≡ judged said (length b) could → {due : ℕ} → due ≡ nextDue (t .due) answer
+    → Returns (returned t) (within could b (unitCall t (call address flags b))) (record { session = record { settings = t .settings; due = due }; answer = answer }) (left ++ drop m b)
+within-returns t could address flags b {m} is {said} {left} y {answer} e {due} d =
     let part = unitCall t (call address flags (take m b)) in
     let w : within could b (unitCall t (call address flags b)) ≡ record { answer = judged (part .answer) (length b) could; buffer = part .buffer ++ drop m b }
     = subst (λ n. let p = unitCall t (call address flags (take n b)) in within could b (unitCall t (call address flags b)) ≡ record { answer = judged (p .answer) (length b) could; buffer = p .buffer ++ drop n b }) (sym is)
     (part-call (luma-sound (t .settings)) (t .due) address flags b could) in
-    let a : answer ≡ judged (part .answer) (length b) could = e ∙ ap (λ (x : Called). judged (x .answer) (length b) could) (y .returns) in
-    let s : called .session ≡ following t (judged (part .answer) (length b) could)
-    = ap (λ (x : Called). x .session) (y .returns) ∙ ap {B = Session} (λ d. record { settings = t .settings; due = d }) (sym (judged-due (t .due) (part .answer) (length b) could)) in
+    let a : answer ≡ within could b (unitCall t (call address flags b)) .answer = e ∙ ap (λ (x : Answer). judged x (length b) could) (y .answers) ∙ ap (λ (o : Outcome). o .answer) (sym w) in
     record {
-      returns = ap₂ {C = Called} (λ x z. record { session = x; answer = z }) s a ∙ ap (λ (o : Outcome). returned t (o .answer)) (sym w);
+      returns = ap {B = Called} (λ n. record { session = record { settings = t .settings; due = n }; answer = answer }) d ∙ ap (returned t) a;
       leaves = ap (λ (l : List ℕ). l ++ drop m b) (y .leaves) ∙ ap (λ (o : Outcome). o .buffer) (sym w);
     }
 

@@ -9,10 +9,14 @@ pub use accounts::cleared;
 pub use accounts::left_after;
 use picture::Called;
 use picture::Session;
+use picture::State;
+use settings::Settings;
 use unit::Answer;
 ghost use mathlib.Core.Path.{_≡_};
 ghost use Prim.Native.Nat.{_*_, _≤_, min};
-ghost use Rattle.picture.specs.State.{call, Returns};
+ghost use Rattle.unit.specs.Answers.{Meets};
+ghost use Rattle.unit.specs.Luma.{unitsOf};
+ghost use Rattle.picture.specs.State.{call, callIn, Returns};
 ghost use Rattle.picture.specs.Session.{unitCall, returned};
 ghost use Rattle.bank.specs.Granting.{within, judged, Grants};
 
@@ -44,6 +48,23 @@ fn judged(answer: Answer, room: usize, could: usize) -> Answer
     answer
 }
 
+// The answer of the unit call on a session of these settings with this address due. `Session::unit` has these steps, too: with
+// two callers it would not be in line with the plain unit call any more (docs/DECISIONS.md).
+fn unit_answer(
+    settings: Settings,
+    due: usize,
+    address: usize,
+    flags: &[u8],
+    rows: &mut [u8],
+) -> Answer
+    ensures { λ r. ⌜ Meets (callIn (unitsOf settings) due (call address (now (flags .entry)) (now (rows .entry)))) r (now (rows .exit)) ⌝ }
+{
+    match picture::state_at(settings::unit_count(settings), due, address) {
+        State::Refused(number, place) => Answer::Refused(number, place),
+        State::Due => reader::read_unit(settings, address, flags, rows),
+    }
+}
+
 // The unit call of a camera, for which so many rows could be had: it is lent no more of the buffer than that many rows take, so
 // the flags are read once, and nothing is written before 36 is passed.
 fn unit_within(
@@ -56,14 +77,18 @@ fn unit_within(
     requires { ⌜ could ≤ 4294967295 ⌝ }
     ensures { λ r. ⌜ Returns (returned session) (within could (now (rows .entry)) (unitCall session (call address (now (flags .entry)) (now (rows .entry))))) r (now (rows .exit)) ⌝ }
 {
+    let settings = session.settings;
+    let due = session.due;
     let room = rows.len();
     let n = part(room, could);
-    let called = session.unit(address, flags, &mut rows[..n]);
-    let next = called.session;
-    let answer = called.answer;
+    let answer = unit_answer(settings, due, address, flags, &mut rows[..n]);
+    let said = judged(answer, room, could);
     Called {
-        session: next,
-        answer: judged(answer, room, could),
+        session: Session {
+            settings,
+            due: picture::next_due(due, said),
+        },
+        answer: said,
     }
 }
 
