@@ -1,7 +1,7 @@
 -- R-12: one row allowance for a bank of cameras.
 use Prim.Native.Nat.{ℕ, _+_, _-_, _≤_, _<_, min}
 use mathlib.Core.Path.{_≡_, refl, sym, ap, subst, _∙_}
-use mathlib.Core.List.{List}
+use mathlib.Core.List.{List, [], _∷_}
 use mathlib.Core.Logic.{_↔_}
 use native.Mathlib.Omega.{arith}
 use native.Mathlib.Decide.{decLt}
@@ -14,17 +14,20 @@ use Rattle.unit.specs.Luma.{unitsOf}
 use Rattle.unit.proofs.Luma.{luma-sound}
 use Rattle.picture.specs.declared.Session.{Session}
 use Rattle.picture.specs.State.{Call}
-use Rattle.picture.specs.Session.{unitCall}
+use Rattle.sessions.specs.Lists as lists
+use Rattle.picture.specs.Session.{unitCall, following}
+use Rattle.picture.specs.Lists.{acceptedIn, taken}
 use Rattle.bank.specs.declared.accounts.Account.{Account}
-use Rattle.bank.specs.Accounts.{cleared, unused, shares, drawn, commonPart, leftOf, taken}
+use Rattle.bank.specs.Accounts.{cleared, unused, shares, drawn, commonPart, leftOf, held}
+use Rattle.bank.specs.Granting.{within}
 use Rattle.bank.specs.Bank.{accountOf}
 use Rattle.bank.specs.GrantFaults.{Passes, couldHave}
-use Rattle.bank.specs.BankCalls.{grant, BankCall, new-period, accountsIn, grantedSince, afterCalls, grantedIn}
+use Rattle.bank.specs.BankCalls.{grant, BankCall, accountsIn, grantedSince, afterCalls, grantedIn, Asked, grantOf, grantedOn}
 use Rattle.bank.specs.RowAllowance.{AfterCalls, RowAllowance}
-use Rattle.bank.proofs.Sums.{one-most, taken-is}
+use Rattle.bank.proofs.Sums.{one-most, held-is}
 use Rattle.bank.proofs.Grants.{grant-absent}
-use Rattle.bank.proofs.GrantFaults.{within-fits, within-more, grant-passing, grant-decides}
-use Rattle.bank.proofs.BankCalls.{Kept, kept-period, kept-calls}
+use Rattle.bank.proofs.GrantFaults.{within-refused, within-fits, within-more, grant-passing, grant-decides}
+use Rattle.bank.proofs.BankCalls.{grant-granted, Kept, kept-period, kept-calls}
 
 -- ---- one grant
 
@@ -33,8 +36,8 @@ share-could : (share used left n : ℕ) → n ≤ share - used → n ≤ (share 
 share-could share used left n h = omega arith
 
 -- the use can count what is left
-counts : (taken left : ℕ) → taken + left ≤ 4294967295 → min left (4294967295 - taken) ≡ left
-counts taken left h = omega arith
+counts : (held left : ℕ) → held + left ≤ 4294967295 → min left (4294967295 - held) ≡ left
+counts held left h = omega arith
 
 module _ (limit : ℕ) (accounts : List Account) (t : Session) (camera : ℕ) (c : Call) {n : ℕ} (e : unitCall t c .answer ≡ Accepted n) (p : Passes limit accounts camera) where
   -- a table is granted where so many rows could be had, and else refused with 36
@@ -53,9 +56,9 @@ module _ (limit : ℕ) (accounts : List Account) (t : Session) (camera : ℕ) (c
       let own = accountOf accounts camera in
       let r = p .reserved in
       let u = p .undrawn in
-      let o = one-most taken accounts camera (p .there) in
-      let s = taken-is accounts in
-      ap (λ (m : ℕ). unused own + m) (counts (taken own) (commonPart limit accounts - drawn accounts) (omega arith))
+      let o = one-most held accounts camera (p .there) in
+      let s = held-is accounts in
+      ap (λ (m : ℕ). unused own + m) (counts (held own) (commonPart limit accounts - drawn accounts) (omega arith))
 
   exactly : limit < 4294967296 → (grant limit accounts t camera c ≡ unitCall t c) ↔ (n ≤ unused (accountOf accounts camera) + leftOf limit accounts .rows)
   exactly l =
@@ -65,6 +68,50 @@ module _ (limit : ℕ) (accounts : List Account) (t : Session) (camera : ℕ) (c
       go : grant limit accounts t camera c ≡ unitCall t c → Dec (couldHave limit accounts camera < n) → n ≤ unused (accountOf accounts camera) + leftOf limit accounts .rows
       go g (yes h) = absurd (grant-more h g)
       go g (no h) = let w = whole l in omega arith
+
+-- ---- the grant is the unit call
+
+module _ (limit : ℕ) (accounts : List Account) (t : Session) (camera : ℕ) (c : Call) where
+  unit-call : (n : ℕ) → grant limit accounts t camera c .answer ≡ Accepted n → grant limit accounts t camera c ≡ unitCall t c
+  unit-call n e = go (unitCall t c .answer) refl
+    where
+      p : Passes limit accounts camera
+      p = grant-granted (unitsOf (t .settings)) (t .due) limit accounts camera c e .0
+
+      w : grant limit accounts t camera c ≡ within (couldHave limit accounts camera) (c .buffer) (unitCall t c)
+      w = grant-passing (unitsOf (t .settings)) (t .due) limit accounts camera c p
+
+      one : {m : ℕ} → Accepted m ≡ Accepted n → m ≡ n
+      one f = cc
+
+      go : (answer : Answer) → unitCall t c .answer ≡ answer → grant limit accounts t camera c ≡ unitCall t c
+      go (Refused number place) i = w ∙ within-refused (couldHave limit accounts camera) (c .buffer) (unitCall t c) i
+      go (Accepted m) i = by (decLt (couldHave limit accounts camera) m)
+        where
+          by : Dec (couldHave limit accounts camera < m) → grant limit accounts t camera c ≡ unitCall t c
+          by (yes l) =
+              let f : Refused 36 (couldHave limit accounts camera) ≡ Accepted n = ap (λ (o : Outcome). o .answer) (sym (w ∙ within-more (couldHave limit accounts camera) (c .buffer) (unitCall t c) i l)) ∙ e in
+              never (cc)
+          by (no l) = w ∙ within-fits (couldHave limit accounts camera) (c .buffer) (unitCall t c) i (omega arith)
+
+-- those that were granted, as unit calls
+session : (t : Session) (asked : List Asked) → (calls : List Call) × (acceptedIn t calls ≡ grantedOn t asked)
+unfolding lists.acceptedIn
+session t [] = ([], refl)
+session t (a ∷ asked) = go (λ u. session u asked)
+  where
+    go : ((u : Session) → (calls : List Call) × (acceptedIn u calls ≡ grantedOn u asked)) → (calls : List Call) × (acceptedIn t calls ≡ grantedOn t (a ∷ asked))
+    go more = by (grantOf t a .answer) refl
+      where
+        by : (answer : Answer) → grantOf t a .answer ≡ answer → (calls : List Call) × (acceptedIn t calls ≡ grantedOn t (a ∷ asked))
+        by (Refused number place) e = rw e (more t)
+        by (Accepted n) e =
+            let rest = more (following t (grantOf t a .answer)) in
+            let same = unit-call (a .limit) (a .accounts) t (a .camera) (a .call) n e in (
+              a .call ∷ rest .0,
+              ap (λ (o : Outcome). lists.prepend (taken (a .call) (o .answer) (o .buffer)) (acceptedIn (following t (o .answer)) (rest .0))) (sym same)
+                  ∙ ap (lists.prepend (taken (a .call) (grantOf t a .answer) (grantOf t a .buffer))) (rest .1),
+            )
 
 -- ---- the next grant after a list of calls
 
@@ -108,5 +155,7 @@ pub row-allowance : RowAllowance
 row-allowance = record {
   decided = λ limit accounts t camera c. grant-decides (unitsOf (t .settings)) (t .due) limit accounts camera c (luma-sound (t .settings)) (λ due. record { settings = t .settings; due = due });
   exactly = λ limit accounts t camera c n p l e. exactly limit accounts t camera c e p l;
+  unit-call = unit-call;
+  session = session;
   calls = after-calls;
 }

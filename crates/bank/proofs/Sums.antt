@@ -11,7 +11,7 @@ use lib.ListN.{length, getD, set}
 use borrow.Author.Tests.{lt-ltb, le-ltb}
 use Rattle.bank.specs.declared.accounts.Account.{Account}
 use Rattle.bank.specs.declared.accounts.Left.{Left}
-use Rattle.bank.specs.Accounts.{none, cleared, beyond, sumOf, shares, totalUse, drawn, commonPart, overdrawn, leftOf, taken, all, leftAfter}
+use Rattle.bank.specs.Accounts.{none, cleared, beyond, sumOf, shares, totalUse, drawn, commonPart, overdrawn, leftOf, held, all, leftAfter}
 
 -- ---- a list of accounts
 
@@ -51,11 +51,11 @@ unfolding sumOf
 use-most [] = omega arith
 use-most (y ∷ ys) = omega (arith, use-most ys)
 
--- what is taken: the shares and what is drawn
-pub taken-is : (ys : List Account) → sumOf taken ys ≡ shares ys + drawn ys
+-- what is held: the shares and what is drawn
+pub held-is : (ys : List Account) → sumOf held ys ≡ shares ys + drawn ys
 unfolding sumOf
-taken-is [] = refl
-taken-is (y ∷ ys) = omega (arith, taken-is ys)
+held-is [] = refl
+held-is (y ∷ ys) = omega (arith, held-is ys)
 
 -- ---- what is left
 
@@ -92,15 +92,15 @@ same-left : {m n : ℕ} {s t : Bool} → m ≡ n → s ≡ t → _≡_ {A = Left
 same-left e f = λ i. record { rows = e i; overdrawn = f i }
 
 left-sum : (rows : ℕ) (over : Bool) (ys : List Account)
-    → leftTo (record { rows = rows; overdrawn = over }) (length ys) ys ≡ record { rows = rows - sumOf taken ys; overdrawn = over || ltb rows (sumOf taken ys) }
+    → leftTo (record { rows = rows; overdrawn = over }) (length ys) ys ≡ record { rows = rows - sumOf held ys; overdrawn = over || ltb rows (sumOf held ys) }
 unfolding sumOf
 left-sum rows over [] = same-left (omega arith) (sym (ap (λ (t : Bool). over || t) (le-ltb rows 0 (omega arith)) ∙ or-false over))
 left-sum rows over (y ∷ ys) =
-    left-sum (rows - taken y) (over || ltb rows (taken y)) ys
-    ∙ same-left (omega arith) (or-assoc over (ltb rows (taken y)) (ltb (rows - taken y) (sumOf taken ys)) ∙ ap (λ (t : Bool). over || t) (over-both rows (taken y) (sumOf taken ys)))
+    left-sum (rows - held y) (over || ltb rows (held y)) ys
+    ∙ same-left (omega arith) (or-assoc over (ltb rows (held y)) (ltb (rows - held y) (sumOf held ys)) ∙ ap (λ (t : Bool). over || t) (over-both rows (held y) (sumOf held ys)))
 
 -- the code finds what is left
 pub left-is : (limit : ℕ) (ys : List Account) → leftTo (all limit) (length ys) ys ≡ leftOf limit ys
 left-is limit ys =
-    let e = taken-is ys in
+    let e = held-is ys in
     left-sum limit false ys ∙ same-left (omega arith) (ap (ltb limit) e ∙ sym (over-both limit (shares ys) (drawn ys)))

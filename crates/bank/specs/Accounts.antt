@@ -31,14 +31,14 @@ abbrev pub charged : Account → Answer → Account
 charged a (Accepted count) = record { share = a .share; used = a .used + count }
 charged a (Refused number place) = a
 
--- what an account takes of L: its share, and the use beyond it
-abbrev pub taken : Account → ℕ
-taken a = a .share + beyond a
+-- what an account holds of L: its share, and the use beyond it
+abbrev pub held : Account → ℕ
+held a = a .share + beyond a
 
 -- "the rows that could be had": the camera's unused share plus what is left of the common part, and of that no more than its use, of 32 bits, can still count. Where L has 32
 -- bits, that is all of it (RowAllowance.antt).
 abbrev pub could : (left : ℕ) → Account → ℕ
-could left a = unused a + min left (4294967295 - taken a)
+could left a = unused a + min left (4294967295 - held a)
 
 -- ---- all of them
 
@@ -76,4 +76,4 @@ abbrev pub all : (limit : ℕ) → Left
 all limit = record { rows = limit; overdrawn = false }
 
 abbrev pub leftAfter : Left → Account → Left
-leftAfter left a = record { rows = left .rows - taken a; overdrawn = left .overdrawn || ltb (left .rows) (taken a) }
+leftAfter left a = record { rows = left .rows - held a; overdrawn = left .overdrawn || ltb (left .rows) (held a) }

@@ -11,12 +11,12 @@ use Rattle.unit.specs.Faults.{Decides}
 use Rattle.picture.specs.declared.Session.{Session}
 use Rattle.picture.specs.State.{Call}
 use Rattle.picture.specs.Session.{unitCall, following}
-use Rattle.picture.specs.Lists.{joined}
+use Rattle.picture.specs.Lists.{acceptedIn, joined}
 use Rattle.bank.specs.declared.accounts.Account.{Account}
 use Rattle.bank.specs.Accounts.{unused, shares, totalUse, leftOf}
 use Rattle.bank.specs.Bank.{accountOf, accountsAfter}
 use Rattle.bank.specs.GrantFaults.{Passes, GrantFault, grantNumbers}
-use Rattle.bank.specs.BankCalls.{grant, BankCall, grantedSince, accountsIn}
+use Rattle.bank.specs.BankCalls.{grant, BankCall, grantedSince, accountsIn, Asked, grantedOn}
 
 -- a session, the accounts and a row buffer, before a grant and after it
 abbrev pub grantDecides : (limit : ℕ) → List Account → Session → (camera : ℕ) → Call → Type 0
@@ -48,4 +48,9 @@ pub record RowAllowance : Type 0 where
   pub exactly : (limit : ℕ) (accounts : List Account) (t : Session) (camera : ℕ) (c : Call) (n : ℕ) → Passes limit accounts camera → limit < 4294967296
       → unitCall t c .answer ≡ Accepted n
       → (grant limit accounts t camera c ≡ unitCall t c) ↔ (n ≤ unused (accountOf accounts camera) + leftOf limit accounts .rows)
+  -- "The grant is the unit call": a table is granted as that leaves it
+  pub unit-call : (limit : ℕ) (accounts : List Account) (t : Session) (camera : ℕ) (c : Call) (n : ℕ) → grant limit accounts t camera c .answer ≡ Accepted n
+      → grant limit accounts t camera c ≡ unitCall t c
+  -- so the units granted on a session are those that a list of unit calls on it accepts, and demand 3 speaks of them
+  pub session : (t : Session) (asked : List Asked) → (calls : List Call) × (acceptedIn t calls ≡ grantedOn t asked)
   pub calls : (limit : ℕ) (accounts : List Account) (calls : List BankCall) → AfterCalls limit accounts calls

@@ -4,7 +4,7 @@ use unit::Answer;
 ghost use mathlib.Core.Path.{_≡_};
 ghost use Prim.Native.Nat.{ℕ, _+_, _-_, _≤_};
 ghost use Rattle.unit.specs.declared.Answer.the-variants.{Accepted as Answer·Accepted};
-ghost use Rattle.bank.specs.Accounts.{cleared, unused, taken, could, all, leftAfter, charged};
+ghost use Rattle.bank.specs.Accounts.{cleared, unused, held, could, all, leftAfter, charged};
 
 // A camera's account: its reserved share, and the rows used since the last new period. A caller lends a list of them.
 #[repr(C)]
@@ -13,7 +13,7 @@ pub struct Account {
     pub used: u32,
 }
 
-// What is left of the common part; no row where more is taken than there is.
+// What is left of the common part; no row where the accounts hold more than there is.
 pub struct Left {
     pub rows: u64,
     pub overdrawn: bool,
@@ -29,7 +29,7 @@ pub fn cleared(a: Account) -> Account
     }
 }
 
-// What is left of a limit before any account has taken of it.
+// What is left of a limit before the first account.
 pub fn all_left(limit: u64) -> Left
     ensures { λ r. ⌜ r ≡ all limit ⌝ }
 {
@@ -46,9 +46,9 @@ fn less(x: u64, y: u64) -> u64
     if y <= x { x - y } else { 0 }
 }
 
-// What an account takes of the limit: its share, and the use beyond it.
-fn taken(a: Account) -> u64
-    ensures { λ r. ⌜ r ≡ taken a ⌝ }
+// What an account holds of the limit: its share, and the use beyond it.
+fn held(a: Account) -> u64
+    ensures { λ r. ⌜ r ≡ held a ⌝ }
 {
     let share = a.share;
     let used = a.used;
@@ -65,7 +65,7 @@ pub fn left_after(left: Left, a: Account) -> Left
 {
     let rows = left.rows;
     let overdrawn = left.overdrawn;
-    let n = taken(a);
+    let n = held(a);
     Left {
         rows: less(rows, n),
         overdrawn: overdrawn | (rows < n),
@@ -76,7 +76,7 @@ pub fn left_after(left: Left, a: Account) -> Left
 pub(crate) fn could_have(left: u64, a: Account) -> usize
     ensures { λ r. ⌜ r ≡ could left a ⌝ }
 {
-    let n = taken(a);
+    let n = held(a);
     let unused = n - a.used as u64;
     let most = 4294967295 - n;
     if left < most {
@@ -88,7 +88,7 @@ pub(crate) fn could_have(left: u64, a: Account) -> usize
 
 // The account after a grant with an answer.
 pub(crate) fn charged(a: Account, answer: Answer) -> Account
-    requires { ⌜ ((count : ℕ) → answer ≡ Answer·Accepted count → count ≤ unused a + (4294967295 - taken a)) ⌝ }
+    requires { ⌜ ((count : ℕ) → answer ≡ Answer·Accepted count → count ≤ unused a + (4294967295 - held a)) ⌝ }
     ensures { λ r. ⌜ r ≡ charged a answer ⌝ }
 {
     match answer {

@@ -18,6 +18,8 @@ use Rattle.picture.specs.State.{openedBy}
 use Rattle.picture.specs.Session.{openedNumber}
 use Rattle.picture.specs.CallFaults.{callNumbers}
 use Rattle.picture.proofs.CallFaults.{call-decides}
+use Rattle.bank.specs.GrantFaults.{grantNumbers}
+use Rattle.bank.proofs.RowAllowance.{row-allowance}
 use Rattle.h265settings.specs.Checks as h265s
 use Rattle.h265settings.proofs.Sound.{h265-sound}
 use Rattle.h265.specs.Session as h265
@@ -38,6 +40,7 @@ told = record {
   units = λ s. tells (luma-sound s) refl refl;
   pages = λ s a bytes small page. zero-accepts pageNumbers refl _ (partition-page .decided s a bytes small page .uses);
   comparisons = λ s a first second small. zero-accepts (rowsNumbers settingsNumbers) refl _ (partitions-compared .decided s a first second small .uses);
+  grants = λ limit accounts t camera c. zero-accepts grantNumbers refl _ (row-allowance .decided limit accounts t camera c .uses);
   opens = λ s. zero-picked openedNumber _ _ (settingsRefusal s) refl refl;
   h265-units = λ s. tells (h265-sound s) refl refl;
   h265-opens = λ s. zero-picked h265.openedNumber _ _ (h265s.settingsRefusal s) refl refl;

@@ -16,10 +16,13 @@ use Rattle.unit.specs.Writer.{writeIn}
 use Rattle.unit.specs.Exactly.{Bytes}
 use Rattle.page.specs.Page.{writePage}
 use Rattle.compare.specs.Compare.{compareUnit}
+use Rattle.picture.specs.declared.Session.{Session}
 use Rattle.picture.specs.declared.Opened.{Opened}
 use Rattle.picture.specs.declared.Opened.the-variants as opened
 use Rattle.picture.specs.State.{Call, callIn, nextDue}
 use Rattle.picture.specs.Session.{opening, openedNumber}
+use Rattle.bank.specs.declared.accounts.Account.{Account}
+use Rattle.bank.specs.BankCalls.{grant}
 use Rattle.h265settings.specs.declared.Settings as h265s
 use Rattle.h265settings.specs.Units as h265u
 use Rattle.h265.specs.declared.session.Opened as h265o
@@ -79,6 +82,7 @@ pub record Told : Type 0 where
   pub pages : (s : Settings) (a : ℕ) (bytes : List ℕ) → Bytes bytes → (page : List ℕ)
       → ZeroIsAccepted (writePage s a bytes page .answer)
   pub comparisons : (s : Settings) (a : ℕ) (first second : List ℕ) → Bytes first → ZeroIsAccepted (compareUnit s a first second)
+  pub grants : (limit : ℕ) (accounts : List Account) (t : Session) (camera : ℕ) (c : Call) → ZeroIsAccepted (grant limit accounts t camera c .answer)
   pub opens : (s : Settings) → (openedNumber (opening s) ≡ 0) ↔ (opening s ≡ opened.Fresh (record { settings = s; due = 0 }))
   pub h265-units : (s : h265s.Settings) → Tells (h265u.unitsOf s)
   pub h265-opens : (s : h265s.Settings)
