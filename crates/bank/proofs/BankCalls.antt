@@ -1,7 +1,7 @@
 -- What each call on the accounts keeps: the shares, the rows granted since the last new period, and the limit.
 use Prim.Native.Nat.{ℕ, _+_, _-_, _≤_, _<_, min}
 use mathlib.Core.Path.{_≡_, refl, sym, ap, subst, _∙_}
-use mathlib.Core.List.{List, [], _∷_, _++_, map, append-nil}
+use mathlib.Core.List.{List, [], _∷_, _++_, append-nil}
 use native.Mathlib.Omega.{arith}
 use native.Mathlib.Decide.{decLt}
 use lib.ListN.{length, set, length-set, length-map, length-append}
@@ -20,7 +20,7 @@ use Rattle.picture.specs.State.{Call, callIn}
 use Rattle.picture.specs.Lists.{Taken, taken, joined, rowsOfUnit}
 use Rattle.bank.specs.declared.accounts.Account.{Account}
 use Rattle.bank.specs.Accounts.{none, cleared, charged, unused, beyond, sumOf, shares, totalUse, drawn, commonPart, leftOf}
-use Rattle.bank.specs.Bank.{accountOf, grantIn, accountsAfter}
+use Rattle.bank.specs.Bank.{accountOf, grantIn, accountsAfter, newPeriod}
 use Rattle.bank.specs.GrantFaults.{Passes, couldHave}
 use Rattle.bank.specs.BankCalls.{grant, BankCall, new-period, a-grant, afterCall, grantedBy, afterCalls, grantedIn}
 use Rattle.bank.proofs.OnAccount.{within-most}
@@ -100,7 +100,7 @@ pub record Kept (limit reserved long : ℕ) (accounts : List Account) (units : L
   pub lasting : length accounts ≡ long
   pub undrawn : shares accounts ≤ limit → shares accounts + drawn accounts ≤ limit
 
-pub kept-period : (limit : ℕ) (accounts : List Account) → Kept limit (shares accounts) (length accounts) (map cleared accounts) []
+pub kept-period : (limit : ℕ) (accounts : List Account) → Kept limit (shares accounts) (length accounts) (newPeriod accounts) []
 unfolding lists.joined
 kept-period limit accounts =
     let u = use-cleared accounts in

@@ -149,7 +149,7 @@ module _ (limit : ℕ) (accounts : List Account) (calls : List BankCall) where
             (λ x. omega arith, λ x. omega arith)
 
   after-calls : AfterCalls limit accounts calls
-  after-calls = record { total = kept .used; enough = kept .most; reserved = reserved; granted = λ s t camera c n e h l. granted s t camera c n e l h }
+  after-calls = record { total = kept .used; enough = let m = kept .most in omega arith; reserved = reserved; granted = λ s t camera c n e h l. granted s t camera c n e l h }
 
 pub row-allowance : RowAllowance
 row-allowance = record {

@@ -2,7 +2,7 @@
 use Prim.Native.Nat.{ℕ, zero, suc, _+_, _-_, _≤_, _<_}
 use mathlib.Core.Path.{_≡_, refl, sym, ap, _∙_}
 use mathlib.Core.Bool.{Bool, true, false, _||_}
-use mathlib.Core.List.{List, [], _∷_, map}
+use mathlib.Core.List.{List, [], _∷_}
 use native.Mathlib.Nat.{not-suc-le-zero, le-of-suc-le-suc}
 use native.Mathlib.Omega.{arith}
 use native.Mathlib.Decide.{decLt}
@@ -11,7 +11,8 @@ use lib.ListN.{length, getD, set}
 use borrow.Author.Tests.{lt-ltb, le-ltb}
 use Rattle.bank.specs.declared.accounts.Account.{Account}
 use Rattle.bank.specs.declared.accounts.Left.{Left}
-use Rattle.bank.specs.Accounts.{none, cleared, beyond, sumOf, shares, totalUse, drawn, commonPart, overdrawn, leftOf, held, all, leftAfter}
+use Rattle.bank.specs.Accounts.{none, beyond, sumOf, shares, totalUse, drawn, commonPart, overdrawn, leftOf, held, all, leftAfter}
+use Rattle.bank.specs.Bank.{newPeriod}
 
 -- ---- a list of accounts
 
@@ -30,17 +31,17 @@ one-most f (y ∷ ys) zero h = omega arith
 one-most f (y ∷ ys) (suc i) h = omega (arith, one-most f ys i (le-of-suc-le-suc h))
 
 -- a new period
-pub shares-cleared : (ys : List Account) → shares (map cleared ys) ≡ shares ys
+pub shares-cleared : (ys : List Account) → shares (newPeriod ys) ≡ shares ys
 unfolding sumOf
 shares-cleared [] = refl
 shares-cleared (y ∷ ys) = ap (λ (m : ℕ). y .share + m) (shares-cleared ys)
 
-pub use-cleared : (ys : List Account) → totalUse (map cleared ys) ≡ 0
+pub use-cleared : (ys : List Account) → totalUse (newPeriod ys) ≡ 0
 unfolding sumOf
 use-cleared [] = refl
 use-cleared (y ∷ ys) = omega (arith, use-cleared ys)
 
-pub drawn-cleared : (ys : List Account) → drawn (map cleared ys) ≡ 0
+pub drawn-cleared : (ys : List Account) → drawn (newPeriod ys) ≡ 0
 unfolding sumOf
 drawn-cleared [] = refl
 drawn-cleared (y ∷ ys) = omega (arith, drawn-cleared ys)

@@ -83,10 +83,10 @@ pub extern "C" fn colwythar_grant(
 pub extern "C" fn colwythar_new_period(accounts: &mut [Account])
     ensures { λ _. ⌜ now (accounts .exit) ≡ newPeriod (now (accounts .entry)) ⌝ }
 {
-    let mut k = 0;
-    while k < accounts.len() {
-        let a = accounts[k];
-        accounts[k] = bank::cleared(a);
-        k = k + 1;
+    let mut i = 0;
+    while i < accounts.len() {
+        let a = accounts[i];
+        accounts[i] = bank::cleared(a);
+        i = i + 1;
     }
 }
