@@ -3,8 +3,7 @@ use Prim.Native.Nat.{ℕ, _+_, _-_, _≤_, _<_, min}
 use mathlib.Core.Path.{_≡_, refl, sym, ap, subst, _∙_}
 use mathlib.Core.List.{List, [], _∷_, _++_, append-nil}
 use native.Mathlib.Omega.{arith}
-use native.Mathlib.Decide.{decLt}
-use lib.ListN.{length, set, length-set, length-map, length-append}
+use lib.ListN.{length, length-set, length-map, length-append}
 use lib.Seq.{set-getD}
 use Rattle.tree.specs.Rows.{Row}
 use Rattle.laws.proofs.Tables.{rows-long}
@@ -15,11 +14,10 @@ use Rattle.unit.specs.Answers.{Outcome}
 use Rattle.unit.specs.Units.{Units}
 use Rattle.unit.specs.Luma.{unitsOf}
 use Rattle.sessions.specs.Lists as lists
-use Rattle.picture.specs.declared.Session.{Session}
 use Rattle.picture.specs.State.{Call, callIn}
 use Rattle.picture.specs.Lists.{Taken, taken, joined, rowsOfUnit}
 use Rattle.bank.specs.declared.accounts.Account.{Account}
-use Rattle.bank.specs.Accounts.{none, cleared, charged, unused, beyond, sumOf, shares, totalUse, drawn, commonPart, leftOf}
+use Rattle.bank.specs.Accounts.{none, cleared, charged, unused, beyond, shares, totalUse, drawn, commonPart}
 use Rattle.bank.specs.Bank.{accountOf, grantIn, accountsAfter, newPeriod}
 use Rattle.bank.specs.GrantFaults.{Passes, couldHave}
 use Rattle.bank.specs.BankCalls.{grant, BankCall, new-period, a-grant, afterCall, grantedBy, afterCalls, grantedIn}

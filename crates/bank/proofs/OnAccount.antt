@@ -1,6 +1,6 @@
 -- The grant on a camera's account, as a function returns it.
 use Prim.Native.Nat.{ℕ, _*_, _/_, _≤_, _<_, min}
-use mathlib.Core.Path.{_≡_, refl, sym, ap, ap₂, subst, _∙_}
+use mathlib.Core.Path.{_≡_, refl, sym, ap, subst, _∙_}
 use mathlib.Core.Bool.{Bool, true, false, cond, _&&_}
 use mathlib.Core.List.{List, _++_}
 use native.Mathlib.Omega.{arith}
@@ -18,12 +18,11 @@ use Rattle.unit.specs.Luma.{unitsOf}
 use Rattle.unit.proofs.Luma.{luma-sound}
 use Rattle.picture.specs.declared.Session.{Session}
 use Rattle.picture.specs.declared.Called.{Called}
-use Rattle.picture.specs.State.{Call, call, callIn, nextDue, Returns}
+use Rattle.picture.specs.State.{Call, call, nextDue, Returns}
 use Rattle.picture.specs.Session.{unitCall, returned}
 use Rattle.picture.proofs.StateCalls.{accepted-here}
 use Rattle.bank.specs.declared.accounts.Account.{Account}
 use Rattle.bank.specs.declared.accounts.Left.{Left}
-use Rattle.bank.specs.declared.Granted.{Granted}
 use Rattle.bank.specs.Accounts.{could, charged}
 use Rattle.bank.specs.Granting.{allowed, within, onAccount, judged, Grants}
 use Rattle.bank.proofs.Parts.{part-call}

@@ -1,6 +1,6 @@
 -- R-12: one row allowance for a bank of cameras.
 use Prim.Native.Nat.{ℕ, _+_, _-_, _≤_, _<_, min}
-use mathlib.Core.Path.{_≡_, refl, sym, ap, subst, _∙_}
+use mathlib.Core.Path.{_≡_, refl, sym, ap, _∙_}
 use mathlib.Core.List.{List, [], _∷_}
 use mathlib.Core.Logic.{_↔_}
 use native.Mathlib.Omega.{arith}
@@ -18,7 +18,7 @@ use Rattle.sessions.specs.Lists as lists
 use Rattle.picture.specs.Session.{unitCall, following}
 use Rattle.picture.specs.Lists.{acceptedIn, taken}
 use Rattle.bank.specs.declared.accounts.Account.{Account}
-use Rattle.bank.specs.Accounts.{cleared, unused, shares, drawn, commonPart, leftOf, held}
+use Rattle.bank.specs.Accounts.{unused, shares, drawn, commonPart, leftOf, held}
 use Rattle.bank.specs.Granting.{within}
 use Rattle.bank.specs.Bank.{accountOf}
 use Rattle.bank.specs.GrantFaults.{Passes, couldHave}

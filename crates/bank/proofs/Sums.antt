@@ -11,7 +11,7 @@ use lib.ListN.{length, getD, set}
 use borrow.Author.Tests.{lt-ltb, le-ltb}
 use Rattle.bank.specs.declared.accounts.Account.{Account}
 use Rattle.bank.specs.declared.accounts.Left.{Left}
-use Rattle.bank.specs.Accounts.{none, beyond, sumOf, shares, totalUse, drawn, commonPart, overdrawn, leftOf, held, all, leftAfter}
+use Rattle.bank.specs.Accounts.{none, sumOf, shares, totalUse, drawn, overdrawn, leftOf, held, all, leftAfter}
 use Rattle.bank.specs.Bank.{newPeriod}
 
 -- ---- a list of accounts

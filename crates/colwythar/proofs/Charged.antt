@@ -10,7 +10,7 @@ use Rattle.unit.specs.Units.{Units}
 use Rattle.picture.specs.State.{Call, nextDue}
 use Rattle.bank.specs.declared.accounts.Account.{Account}
 use Rattle.bank.specs.declared.accounts.Left.{Left}
-use Rattle.bank.specs.Accounts.{none, charged, leftOf}
+use Rattle.bank.specs.Accounts.{none, leftOf}
 use Rattle.bank.specs.Bank.{accountOf, accountsAfter}
 use Rattle.bank.proofs.Grants.{grant-absent, grant-there}
 use Rattle.colwythar.specs.Words.{answerWords, Follows}

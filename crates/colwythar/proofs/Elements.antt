@@ -1,11 +1,11 @@
--- What the proofs over a slice of accounts share: numbers, a test's outcome, and a list whose first elements are done. Assumes nothing.
-use mathlib.Core.Path.{_≡_, refl, sym, _∙_, ap}
-use Prim.Native.Nat.{ℕ, zero, suc, _+_, _*_, _-_, _≤_, _<_, _^_}
+-- What the walks over a slice of accounts share: numbers, a test's outcome, and a list whose first elements are done.
+use mathlib.Core.Path.{_≡_, refl, _∙_, ap}
+use Prim.Native.Nat.{ℕ, zero, suc, _+_, _*_, _-_, _<_, _^_}
 use native.Mathlib.Nat.{add-zero, add-suc, not-suc-le-zero, le-of-suc-le-suc}
 use native.Mathlib.Omega.{arith}
 use mathlib.Core.Bool.{Bool, true, false}
 use mathlib.Core.List.{List, [], _∷_, map}
-use lib.ListN.{length, getD, set, take}
+use lib.ListN.{length, getD, set}
 
 -- the byte offset of element i of n fits a usize
 pub scaled : (i n : ℕ) → i < n → n * 8 < 2 ^ 63 → i * 8 < 2 ^ 64
@@ -43,15 +43,3 @@ firsts-set {A} f (suc i) (y ∷ ys) d r h e = ap {B = List A} (λ l. f y ∷ l) 
 pub firsts-all : {A : Type 0} (f : A → A) (ys : List A) → firsts f (length ys) ys ≡ map f ys
 firsts-all f [] = refl
 firsts-all {A} f (y ∷ ys) = ap {B = List A} (λ l. f y ∷ l) (firsts-all f ys)
-
--- ---- a fold over the first i elements
-abbrev pub foldTo : {S A : Type 0} → (S → A → S) → S → ℕ → List A → S
-foldTo f s zero ys = s
-foldTo f s (suc i) [] = s
-foldTo f s (suc i) (y ∷ ys) = foldTo f (f s y) i ys
-
--- one more element
-pub foldTo-next : {S A : Type 0} (f : S → A → S) (s : S) (i : ℕ) (ys : List A) (d : A) → i < length ys → f (foldTo f s i ys) (getD ys i d) ≡ foldTo f s (suc i) ys
-foldTo-next f s i [] d h = absurd (not-suc-le-zero h)
-foldTo-next f s zero (y ∷ ys) d h = refl
-foldTo-next f s (suc i) (y ∷ ys) d h = foldTo-next f (f s y) i ys d (le-of-suc-le-suc h)

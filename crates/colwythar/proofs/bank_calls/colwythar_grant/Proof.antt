@@ -35,13 +35,13 @@ use denote.RattleType.{RattleType, owns}
 use denote.Laws.{Is, shows}
 use denote.Memory.{pointee}
 use denote.Plain.{uint-makes, uint-vals, uint-tells}
-use denote.Builtin.{u8, u32, u64, usize, unit, ArrayOf}
+use denote.Builtin.{u8, u32, u64, usize, unit}
 use denote.Array.{Array}
 use denote.Ref.{RefT, now, MutRef, ShrRef, ptr-vals, mut-tells, shr-tells}
 use denote.Slice.{sliceTy, sliceVal, MutSlice, ShrSlice, Room, heres, codedHoleys, finally, res-finally, slice-vals, mut-slice-tells, shr-slice-tells}
 use denote.Lend.{Held}
 use denote.Index.{row, place-is, elem-out, elem-back, elem-put, opens-slice, closes-slice}
-use denote.Signature.{plain, shrRefTo, mutRefTo, shrSliceOf, mutSliceOf}
+use denote.Signature.{plain, shrRefTo, shrSliceOf}
 use denote.Signature.Array.{arrayOf}
 use denote.Steps.{peeks, owned, heard, nothing, only}
 use denote.Struct.Laws as LL

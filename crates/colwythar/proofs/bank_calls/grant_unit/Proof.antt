@@ -1,5 +1,5 @@
 -- `grant_unit` meets its contract.
-use mathlib.Core.Path.{refl, ap, subst, _∙_}
+use mathlib.Core.Path.{refl, ap, _∙_}
 use denote.Ref.{now}
 use borrow.Author.Needs.{needs}
 use Rattle.settings.specs.declared.Settings.{Settings}
