@@ -1,5 +1,5 @@
-// The accounts of a bank of cameras, one at a time: what an account takes of the rows that all cameras share, and how many its
-// camera could have.
+// The accounts of a bank of cameras, one at a time: what an account holds of the rows that all cameras share, and how
+// many its camera could have.
 use unit::Answer;
 ghost use mathlib.Core.Path.{_≡_};
 ghost use Prim.Native.Nat.{ℕ, _+_, _-_, _≤_};

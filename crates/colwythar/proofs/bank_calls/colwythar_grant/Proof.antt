@@ -235,45 +235,10 @@ module _ {M : Type 1} (𝓤 : URA M) (H : Heap 𝓤) (A : Atoms 𝓤) (W : Given
   exits d w ws zs lw lz e =
       qed W (‵ (flft κ₀ q₀) ∷ ‵ (flft κ₁ q₁) ∷ ‵ (flft κ₂ q₂) ∷ ‵ (flft κ₃ q₃) ∷ ‵ (flft κ₄ q₄) ∷ ‵ (flft κ₅ q₅) ∷ ‵ (last-due d) ∷ ‵ (finally u8 γ₃ ws) ∷ ‵ (finally T.the-row γ zs) ∷ ‵ (last-answer w) ∷ []) ∵
       suffices ! _ (ends-at 𝓤 H A grant.ended stayed (grant.clauses 𝓤 H A mem run) W ((κs, qs, tt, x, at), tt) vunit tt (tt, (d, (tt, (tt, (ws, (zs, (tt, (tt, (w, tt))))))))) (tt, (tt, (tt, (tt, (lw, (lz, (tt, (tt, (tt, tt)))))))))) $ says ! e $
-      nothing ! $
-      move ! (6 ∷ 0 ∷ []) $
-      join ! $
-      move ! (5 ∷ 0 ∷ []) $
-      join ! $
-      move ! (4 ∷ 0 ∷ []) $
-      join ! $
-      move ! (3 ∷ 0 ∷ []) $
-      join ! $
-      move ! (2 ∷ 0 ∷ []) $
-      join ! $
-      move ! (1 ∷ 0 ∷ []) $
-      join ! $
-      frame ! $
-      nothing ! $
-      move ! (4 ∷ 0 ∷ []) $
-      fjoin ! $
-      nothing ! $
-      move ! (0 ∷ 1 ∷ []) $
-      fjoin ! $
-      nothing ! $
-      move ! (0 ∷ 1 ∷ []) $
-      fjoin ! $
-      move ! (3 ∷ 0 ∷ []) $
-      fjoin ! $
-      move ! (2 ∷ 0 ∷ []) $
-      fjoin ! $
-      nothing ! $
-      move ! (0 ∷ 1 ∷ []) $
-      fjoin ! $
-      nothing ! $
-      move ! (0 ∷ 1 ∷ []) $
-      fjoin ! $
-      move ! (1 ∷ 0 ∷ []) $
-      fjoin ! $
-      nothing ! $
-      move ! (0 ∷ 1 ∷ []) $
-      fjoin ! $
-      frame ! $ feqI ! (List Val) (vunit ∷ []) (vunit ∷ []) refl $ done !
+      nothing ! $ move ! (6 ∷ 0 ∷ []) $ join ! $ move ! (5 ∷ 0 ∷ []) $ join ! $ move ! (4 ∷ 0 ∷ []) $ join ! $ move ! (3 ∷ 0 ∷ []) $ join ! $
+      move ! (2 ∷ 0 ∷ []) $ join ! $ move ! (1 ∷ 0 ∷ []) $ join ! $ frame ! $ nothing ! $ move ! (4 ∷ 0 ∷ []) $ fjoin ! $ nothing ! $ fjoin ! $ nothing ! $
+      fjoin ! $ move ! (3 ∷ 0 ∷ []) $ fjoin ! $ move ! (2 ∷ 0 ∷ []) $ fjoin ! $ nothing ! $ fjoin ! $ nothing ! $ fjoin ! $ move ! (1 ∷ 0 ∷ []) $ fjoin ! $
+      nothing ! $ fjoin ! $ frame ! $ feqI ! (List Val) (vunit ∷ []) (vunit ∷ []) refl $ done !
 
   -- what is lent to be written and is not used has its first contents for its last
   unused-due : ent 𝓤 (sem 𝓤 H A own-due) (sem 𝓤 H A (last-due (now due)))
@@ -321,37 +286,12 @@ module _ {M : Type 1} (𝓤 : URA M) (H : Heap 𝓤) (A : Atoms 𝓤) (W : Given
       → ent 𝓤 (⋆ 𝓤 H A (lent ∷ things ∷ [])) (GrantUnit 𝓤 H A mem run .pre (to-grant t a))
   goes-grant t a is-t is-a =
       qed W (lent ∷ things ∷ []) ∵
-      move ! (1 ∷ []) $
-      split ! $
-      move ! (1 ∷ []) $
-      split ! $
-      move ! (1 ∷ []) $
-      split ! $
-      move ! (1 ∷ []) $
-      split ! $
-      nothing ! $
-      move ! (2 ∷ 0 ∷ []) $
+      move ! (1 ∷ []) $ split ! $ move ! (1 ∷ []) $ split ! $ move ! (1 ∷ []) $ split ! $ move ! (1 ∷ []) $ split ! $ nothing ! $ move ! (2 ∷ 0 ∷ []) $
+      fjoin ! $ move ! (1 ∷ 0 ∷ []) $ fjoin ! $ move ! (1 ∷ 0 ∷ []) $ fjoin ! $
+      owned ! u64 (Is u64) (uint-makes 𝓤 H A W w64) address _ (refl, address-fits) $ fjoin ! $ move ! (1 ∷ 0 ∷ []) $ fjoin ! $ move ! (1 ∷ 0 ∷ []) $
       fjoin ! $
-      move ! (1 ∷ 0 ∷ []) $
-      fjoin ! $
-      move ! (1 ∷ 0 ∷ []) $
-      fjoin ! $
-      owned ! u64 (Is u64) (uint-makes 𝓤 H A W w64) address _ (refl, address-fits) $
-      move ! (0 ∷ 1 ∷ []) $
-      fjoin ! $
-      move ! (1 ∷ 0 ∷ []) $
-      fjoin ! $
-      move ! (1 ∷ 0 ∷ []) $
-      fjoin ! $
-      owned ! T.the-row (Is T.the-row) (LL.makes T.the-type T′.the-plain 𝓤 H A) a _ is-a $
-      move ! (0 ∷ 1 ∷ []) $
-      fjoin ! $
-      owned ! U.the-row (Is U.the-row) (LL.makes U.the-type U′.the-plain 𝓤 H A) t _ is-t $
-      move ! (0 ∷ 1 ∷ []) $
-      fjoin ! $
-      move ! (1 ∷ 0 ∷ []) $
-      join ! $
-      frame ! $ done !
+      owned ! T.the-row (Is T.the-row) (LL.makes T.the-type T′.the-plain 𝓤 H A) a _ is-a $ fjoin ! $
+      owned ! U.the-row (Is U.the-row) (LL.makes U.the-type U′.the-plain 𝓤 H A) t _ is-t $ fjoin ! $ move ! (1 ∷ 0 ∷ []) $ join ! $ frame ! $ done !
 
   -- what is left after the first accounts
   abbrev so-far : ℕ → Left
@@ -480,59 +420,20 @@ module _ {M : Type 1} (𝓤 : URA M) (H : Heap 𝓤) (A : Atoms 𝓤) (W : Given
           assigns ! (addr ! (from ! (hop ! (look ! 13 refl) (stop !)))) (from ! (stop !)) (init ! 27 refl (tt, tt)) $
           assigns ! (addr ! (from ! (fld ! refl (hop ! (look-in ! 16 (sub ! 0 refl (whole !))) (stop !))))) (from ! (stop !)) (init ! 28 refl (tt, tt)) $
           assigns ! (agg ! (and-then ! (load ! (from ! (stop !)) (look ! 28 refl)) (and-then ! (load ! (from ! (fld ! refl (stop !))) (look-in ! 16 (sub ! 1 refl (whole !)))) (no-more !)))) (from ! (stop !)) (init ! 29 refl (tt, (tt, (record { fits = room₃ .0 }, tt)))) $
-          assigns ! (addr ! (from ! (hop ! (look ! 19 refl) (stop !)))) (from ! (stop !)) (init ! 30 refl (tt, tt)) $
-          nothing ! $
-          move ! (40 ∷ 0 ∷ []) $
-          join ! $
-          move ! (39 ∷ 0 ∷ []) $
-          join ! $
-          move ! (38 ∷ 0 ∷ []) $
-          join ! $
-          move ! (37 ∷ 0 ∷ []) $
-          join ! $
-          move ! (36 ∷ 0 ∷ []) $
-          join ! $
-          move ! (39 ∷ 40 ∷ []) $
-          join ! $
-          move ! (39 ∷ 0 ∷ []) $
-          join ! $
-          move ! (38 ∷ 0 ∷ []) $
-          join ! $
-          move ! (37 ∷ 0 ∷ []) $
-          join ! $
-          move ! (1 ∷ 0 ∷ []) $
+          assigns ! (addr ! (from ! (hop ! (look ! 19 refl) (stop !)))) (from ! (stop !)) (init ! 30 refl (tt, tt)) $ nothing ! $ move ! (40 ∷ 0 ∷ []) $
+          join ! $ move ! (39 ∷ 0 ∷ []) $ join ! $ move ! (38 ∷ 0 ∷ []) $ join ! $ move ! (37 ∷ 0 ∷ []) $ join ! $ move ! (36 ∷ 0 ∷ []) $ join ! $
+          move ! (39 ∷ 40 ∷ []) $ join ! $ move ! (39 ∷ 0 ∷ []) $ join ! $ move ! (38 ∷ 0 ∷ []) $ join ! $ move ! (37 ∷ 0 ∷ []) $ join ! $ move ! (1 ∷ 0 ∷ []) $
           use2 W (raw (GrantUnit 𝓤 H A mem run .pre (to-grant (so-far (i .0)) elem))) (goes-grant (so-far (i .0)) elem (i .2) is-a) $
           calls-at ! fm (GrantUnit 𝓤 H A mem run) known-grant (to-grant (so-far (i .0)) elem) (and-then ! (load ! (from ! (stop !)) (look ! 5 refl)) (and-then ! (load ! (from ! (stop !)) (look ! 21 refl)) (and-then ! (load ! (from ! (stop !)) (look ! 13 refl)) (and-then ! (load ! (from ! (stop !)) (look ! 28 refl)) (and-then ! (load ! (from ! (stop !)) (look ! 15 refl)) (and-then ! (load ! (from ! (stop !)) (look ! 16 refl)) (and-then ! (load ! (from ! (stop !)) (look ! 30 refl)) (and-then ! (load ! (from ! (stop !)) (look ! 31 refl)) (no-more !))))))))) (λ v.
           use1 W (later (some (λ (r : Account). (lent ⊛ ‵ (T.the-row .own r (v ∷ []))) ⊛ raw (ensured 𝓤 H A grant-unit.ended (grant-unit.clauses 𝓤 H A mem run) lives (passed (so-far (i .0)) elem) tt r)))) (id⊢ 𝓤 _) $ await ! tt $ pick ! (λ r.
           -- what it ensures, at some last contents
-          split ! $
-          move ! (1 ∷ []) $
+          split ! $ move ! (1 ∷ []) $
           use1 W (some (λ (ws : Unit {0} × (Unit {0} × (Unit {0} × (ℕ × (Unit {0} × (Unit {0} × (List ℕ × (List ℕ × Unit {0})))))))). ‵ (lasts grant-unit.ended lives (passed (so-far (i .0)) elem) ws) ⊛ raw (fact 𝓤 (ChargesOne (so-far (i .0)) elem us (now due) asked r (ws .1 .1 .1 .0) (ws .1 .1 .1 .1 .1 .1 .1 .0) (ws .1 .1 .1 .1 .1 .1 .0))))) (id⊢ 𝓤 _) $ pick ! (λ ws.
-          split ! $
-          move ! (1 ∷ []) $
+          split ! $ move ! (1 ∷ []) $
           heard ! (ChargesOne (so-far (i .0)) elem us (now due) asked r (ws .1 .1 .1 .0) (ws .1 .1 .1 .1 .1 .1 .1 .0) (ws .1 .1 .1 .1 .1 .1 .0)) (λ e.
-          fsplit ! $
-          drop ! $
-          fsplit ! $
-          drop ! $
-          fsplit ! $
-          drop ! $
-          fsplit ! $
-          move ! (1 ∷ []) $
-          fsplit ! $
-          drop ! $
-          fsplit ! $
-          drop ! $
-          fsplit ! $
-          move ! (1 ∷ []) $
-          fsplit ! $
-          move ! (2 ∷ []) $
-          fsplit ! $
-          move ! (1 ∷ []) $
-          feqL ! (λ lw.
-          move ! (4 ∷ []) $
-          split ! $
-          move ! (1 ∷ []) $
+          fsplit ! $ drop ! $ fsplit ! $ drop ! $ fsplit ! $ drop ! $ fsplit ! $ move ! (1 ∷ []) $ fsplit ! $ drop ! $ fsplit ! $ drop ! $ fsplit ! $
+          move ! (1 ∷ []) $ fsplit ! $ move ! (2 ∷ []) $ fsplit ! $ move ! (1 ∷ []) $ feqL ! (λ lw.
+          move ! (4 ∷ []) $ split ! $ move ! (1 ∷ []) $
           peeks ! T.the-row (Is T.the-row) (shows 𝓤 H A T.the-row) r (v ∷ []) (λ is.
           land ! (from ! (stop !)) (store ! 32 refl (LL.lawful T.the-type T′.the-laws 𝓤 H A W .typed r _ is .0)) $
           -- the account that it returns is stored
@@ -540,27 +441,13 @@ module _ {M : Type 1} (𝓤 : URA M) (H : Heap 𝓤) (A : Atoms 𝓤) (W : Given
           assigns ! (bin ! (load ! (from ! (fld ! refl (stop !))) (look-in ! 11 (sub ! 0 refl (whole !)))) (load ! (from ! (stop !)) (look ! 27 refl)) tt) (from ! (stop !)) (init ! 37 refl (tt, tt)) $
           rewrite ! 37 (λ (p : ℕ). ‵ (fat fullShare tyPtr l₂₈ 0 (vptr b p))) (sym (place-is 8 o camera)) refl $
           assigns ! (of-opd ! (load ! (from ! (stop !)) (look ! 32 refl))) (from ! (hop ! (look ! 37 refl) (stop !))) (store-raw ! 6 refl (LL.lawful T.the-type T′.the-laws 𝓤 H A W .typed r _ is .0)) $
-          move ! (6 ∷ 0 ∷ 8 ∷ []) $
-          elem-put ! T.the-row fullShare ys camera r (v ∷ []) b o has $
-          move ! (0 ∷ 36 ∷ 37 ∷ 38 ∷ []) $
+          move ! (6 ∷ 0 ∷ 8 ∷ []) $ elem-put ! T.the-row fullShare ys camera r (v ∷ []) b o has $ move ! (0 ∷ 36 ∷ 37 ∷ 38 ∷ []) $
           closes-slice ! tt T.the-row ys (set ys camera r) (length-set ys camera r) b o $
-          assigns ! (of-opd ! (unit-lit !)) (from ! (stop !)) (init ! 17 refl (tt, tt)) $
-          returns ! (look ! 17 refl) $
+          assigns ! (of-opd ! (unit-lit !)) (from ! (stop !)) (init ! 17 refl (tt, tt)) $ returns ! (look ! 17 refl) $
           forget ! 17 refl $ forget ! 18 refl $ forget ! 19 refl $ forget ! 20 refl $ forget ! 21 refl $ forget ! 22 refl $ forget ! 11 refl $ forget ! 23 refl $ forget ! 24 refl $ forget ! 25 refl $ forget ! 10 refl $ forget ! 9 refl $ forget ! 26 refl $ forget ! 27 refl $ forget ! 13 refl $ forget ! 14 refl $ forget ! 31 refl $ forget ! 32 refl $ forget ! 33 refl $ forget ! 34 refl $ forget ! 35 refl $ forget ! 36 refl $ forget ! 37 refl $
           move ! (17 ∷ 38 ∷ []) $ free1 ! $ move ! (17 ∷ 37 ∷ []) $ free1 ! $ move ! (17 ∷ 36 ∷ []) $ free1 ! $ move ! (17 ∷ 35 ∷ []) $ free1 ! $ move ! (17 ∷ 34 ∷ []) $ free1 ! $ move ! (17 ∷ 33 ∷ []) $ free1 ! $ move ! (11 ∷ 32 ∷ []) $ free1 ! $ move ! (16 ∷ 31 ∷ []) $ free1 ! $ move ! (16 ∷ 30 ∷ []) $ free1 ! $ move ! (16 ∷ 29 ∷ []) $ free1 ! $ move ! (10 ∷ 28 ∷ []) $ free1 ! $ move ! (9 ∷ 27 ∷ []) $ free1 ! $ move ! (9 ∷ 26 ∷ []) $ free1 ! $ move ! (13 ∷ 25 ∷ []) $ free1 ! $ move ! (13 ∷ 24 ∷ []) $ free1 ! $ move ! (13 ∷ 23 ∷ []) $ free1 ! $ move ! (13 ∷ 22 ∷ []) $ free1 ! $ move ! (13 ∷ 21 ∷ []) $ free1 ! $ move ! (9 ∷ 20 ∷ []) $ free1 ! $ move ! (9 ∷ 19 ∷ []) $ free1 ! $ move ! (9 ∷ 18 ∷ []) $ free1 ! $ move ! (9 ∷ 17 ∷ []) $ free1 ! $ move ! (9 ∷ 16 ∷ []) $ free1 ! $ move ! (9 ∷ 15 ∷ []) $ free1 ! $ move ! (9 ∷ 14 ∷ []) $ free1 ! $ move ! (9 ∷ 13 ∷ []) $ free1 ! $ move ! (9 ∷ 12 ∷ []) $ free1 ! $ move ! (9 ∷ 11 ∷ []) $ free1 ! $ move ! (9 ∷ 10 ∷ []) $ free1 ! $ free0 ! $
-          move ! (0 ∷ []) $
-          use1 W (‵ (finally T.the-row γ (set ys camera r))) (kept-slice T.the-row 4 κ₄ γ (set ys camera r)) $
-          move ! (3 ∷ []) $
-          split ! $
-          move ! (1 ∷ []) $
-          split ! $
-          move ! (1 ∷ []) $
-          split ! $
-          move ! (1 ∷ []) $
-          split ! $
-          move ! (1 ∷ []) $
-          split ! $
-          keep ! (5 ∷ 4 ∷ 3 ∷ 2 ∷ 8 ∷ 0 ∷ 12 ∷ 9 ∷ 6 ∷ 10 ∷ []) $
+          use1 W (‵ (finally T.the-row γ (set ys camera r))) (kept-slice T.the-row 4 κ₄ γ (set ys camera r)) $ move ! (3 ∷ []) $ split ! $ move ! (1 ∷ []) $
+          split ! $ move ! (1 ∷ []) $ split ! $ move ! (1 ∷ []) $ split ! $ move ! (1 ∷ []) $ split ! $ keep ! (5 ∷ 4 ∷ 3 ∷ 2 ∷ 8 ∷ 0 ∷ 12 ∷ 9 ∷ 6 ∷ 10 ∷ []) $
           by ! (exits (ws .1 .1 .1 .0) (ws .1 .1 .1 .1 .1 .1 .1 .0) (ws .1 .1 .1 .1 .1 .1 .0) (set ys camera r) lw (length-set ys camera r) (charges-there us (now due) limit ys camera asked has whole-list e)))))))))
         where
           elem : Account
@@ -584,14 +471,8 @@ module _ {M : Type 1} (𝓤 : URA M) (H : Heap 𝓤) (A : Atoms 𝓤) (W : Given
           peeks ! U.the-row (Is U.the-row) (shows 𝓤 H A U.the-row) r (v ∷ []) (λ is. drop ! $
           land ! (from ! (stop !)) (init ! 36 refl (LL.lawful U.the-type U′.the-laws 𝓤 H A W .typed r _ is .0)) $
           rewrite ! 36 (λ (u : Val). ‵ (fat fullShare U′.mir l₁₀ 0 u)) (ap only (LL.tells U.the-type U′.the-laws r _ is) ∙ ap val-u e) refl $
-          assigns ! (of-opd ! (lit ! tt)) (from ! (stop !)) (init ! 34 refl (tt, record { fits = lit< tt })) $
-          forget ! 28 refl $ forget ! 26 refl $
-          move ! (68 ∷ []) $
-          fsplit ! $
-          drop ! $
-          fsplit ! $
-          move ! (0 ∷ 1 ∷ 64 ∷ []) $
-          opens-slice ! tt T.the-row ys b o $
+          assigns ! (of-opd ! (lit ! tt)) (from ! (stop !)) (init ! 34 refl (tt, record { fits = lit< tt })) $ forget ! 28 refl $ forget ! 26 refl $
+          move ! (68 ∷ []) $ fsplit ! $ drop ! $ fsplit ! $ move ! (0 ∷ 1 ∷ 64 ∷ []) $ opens-slice ! tt T.the-row ys b o $
           keep ! (0 ∷ 38 ∷ 40 ∷ 48 ∷ 36 ∷ 24 ∷ 22 ∷ 20 ∷ 18 ∷ 60 ∷ 58 ∷ 56 ∷ 54 ∷ 52 ∷ 50 ∷ 46 ∷ 44 ∷ 42 ∷ 34 ∷ 32 ∷ 30 ∷ 28 ∷ 26 ∷ 16 ∷ 14 ∷ 12 ∷ 10 ∷ 8 ∷ 6 ∷ 4 ∷ 1 ∷ 2 ∷ 3 ∷ 62 ∷ 63 ∷ 64 ∷ 65 ∷ 66 ∷ 67 ∷ 68 ∷ 69 ∷ 70 ∷ 71 ∷ 61 ∷ 59 ∷ 57 ∷ 55 ∷ 53 ∷ 51 ∷ 49 ∷ 47 ∷ 45 ∷ 43 ∷ 41 ∷ 39 ∷ 37 ∷ 35 ∷ 33 ∷ 31 ∷ 29 ∷ 27 ∷ 25 ∷ 23 ∷ 21 ∷ 19 ∷ 17 ∷ 15 ∷ 13 ∷ 11 ∷ 9 ∷ 7 ∷ 5 ∷ []) $
           first ! $ blocks ! $ loops ! 𝓣 Nearer Nearer-wf At (turns has) (0, zero-le, subst (λ (u : Left). Is U.the-row u (val-u u ∷ [])) e (subst (Is U.the-row r) (LL.tells U.the-type U′.the-laws r _ is) is))))))
 
@@ -603,36 +484,20 @@ module _ {M : Type 1} (𝓤 : URA M) (H : Heap 𝓤) (A : Atoms 𝓤) (W : Given
           assigns ! (bin ! (load ! (from ! (stop !)) (look ! 28 refl)) (load ! (from ! (stop !)) (look ! 42 refl)) tt) (from ! (stop !)) (init ! 26 refl (tt, tt)) $
           first ! $ branches ! (load ! (from ! (stop !)) (look ! 26 refl))
           (λ absent.
-          assigns ! (addr ! (from ! (hop ! (look ! 38 refl) (stop !)))) (from ! (stop !)) (init ! 22 refl (tt, tt)) $
-          move ! (63 ∷ 69 ∷ []) $
+          assigns ! (addr ! (from ! (hop ! (look ! 38 refl) (stop !)))) (from ! (stop !)) (init ! 22 refl (tt, tt)) $ move ! (63 ∷ 69 ∷ []) $
           use2 W (raw (NoAccount 𝓤 H A mem run .pre to-none)) goes-none $
           calls-at ! fm (NoAccount 𝓤 H A mem run) known-none to-none (and-then ! (load ! (from ! (stop !)) (look ! 23 refl)) (no-more !)) (λ v.
           use1 W (later (some (λ (r : Unit {0}). ((‵ (flft κ₅ q₅) ⊛ ‵ ftrue) ⊛ ‵ (unit .own r (v ∷ []))) ⊛ raw (ensured 𝓤 H A no-account.ended (no-account.clauses 𝓤 H A mem run) (κ₅, tt) (answer, tt) tt r)))) (id⊢ 𝓤 _) $ await ! tt $ pick ! (λ r.
-          split ! $
-          move ! (1 ∷ []) $
+          split ! $ move ! (1 ∷ []) $
           use1 W (some (λ (ws : List ℕ × Unit {0}). ‵ (lasts no-account.ended (κ₅, tt) (answer, tt) ws) ⊛ raw (fact 𝓤 (ws .0 ≡ answerWords (Refused 37 0))))) (id⊢ 𝓤 _) $ pick ! (λ ws.
-          split ! $
-          move ! (1 ∷ []) $
-          heard ! (ws .0 ≡ answerWords (Refused 37 0)) (λ e.
-          fsplit ! $
-          move ! (2 ∷ []) $
-          split ! $
-          move ! (1 ∷ []) $
-          feqL ! (λ eu.
+          split ! $ move ! (1 ∷ []) $ heard ! (ws .0 ≡ answerWords (Refused 37 0)) (λ e.
+          fsplit ! $ move ! (2 ∷ []) $ split ! $ move ! (1 ∷ []) $ feqL ! (λ eu.
           land ! (from ! (stop !)) (init ! 27 refl (subst (λ (u : Val). Holds (hasTy tyUnit u) × WT u) (sym (ap only eu)) (tt, tt))) $
-          assigns ! (of-opd ! (unit-lit !)) (from ! (stop !)) (init ! 59 refl (tt, tt)) $
-          returns-within ! Post refl (look ! 59 refl) $
+          assigns ! (of-opd ! (unit-lit !)) (from ! (stop !)) (init ! 59 refl (tt, tt)) $ returns-within ! Post refl (look ! 59 refl) $
           forget ! 59 refl $ forget ! 57 refl $ forget ! 55 refl $ forget ! 53 refl $ forget ! 51 refl $ forget ! 49 refl $ forget ! 47 refl $ forget ! 45 refl $ forget ! 43 refl $ forget ! 41 refl $ forget ! 31 refl $ forget ! 29 refl $ forget ! 27 refl $ forget ! 25 refl $
           move ! (59 ∷ 60 ∷ []) $ free1 ! $ move ! (57 ∷ 58 ∷ []) $ free1 ! $ move ! (55 ∷ 56 ∷ []) $ free1 ! $ move ! (53 ∷ 54 ∷ []) $ free1 ! $ move ! (51 ∷ 52 ∷ []) $ free1 ! $ move ! (49 ∷ 50 ∷ []) $ free1 ! $ move ! (47 ∷ 48 ∷ []) $ free1 ! $ move ! (45 ∷ 46 ∷ []) $ free1 ! $ move ! (43 ∷ 44 ∷ []) $ free1 ! $ move ! (41 ∷ 42 ∷ []) $ free1 ! $ move ! (39 ∷ 40 ∷ []) $ free1 ! $ move ! (37 ∷ 38 ∷ []) $ free1 ! $ move ! (35 ∷ 36 ∷ []) $ free1 ! $ move ! (33 ∷ 34 ∷ []) $ free1 ! $ move ! (31 ∷ 32 ∷ []) $ free1 ! $ move ! (29 ∷ 30 ∷ []) $ free1 ! $ move ! (27 ∷ 28 ∷ []) $ free1 ! $ move ! (25 ∷ 26 ∷ []) $ free1 ! $ move ! (23 ∷ 24 ∷ []) $ free1 ! $ move ! (21 ∷ 22 ∷ []) $ free1 ! $ move ! (19 ∷ 20 ∷ []) $ free1 ! $ move ! (17 ∷ 18 ∷ []) $ free1 ! $ move ! (15 ∷ 16 ∷ []) $ free1 ! $ move ! (13 ∷ 14 ∷ []) $ free1 ! $ move ! (11 ∷ 12 ∷ []) $ free1 ! $ move ! (9 ∷ 10 ∷ []) $ free1 ! $ move ! (7 ∷ 8 ∷ []) $ free1 ! $ move ! (5 ∷ 6 ∷ []) $ free1 ! $ move ! (3 ∷ 4 ∷ []) $ free1 ! $ free0 ! $
-          move ! (11 ∷ []) $
-          use1 W (‵ (finally u8 γ₃ rs)) unused-rows $
-          move ! (12 ∷ []) $
-          use1 W (‵ (finally T.the-row γ ys)) unused-accounts $
-          move ! (11 ∷ []) $
-          use1 W (‵ (last-due (now due))) unused-due $
-          move ! (3 ∷ []) $
-          split ! $
-          keep ! (7 ∷ 8 ∷ 9 ∷ 10 ∷ 11 ∷ 0 ∷ 2 ∷ 4 ∷ 3 ∷ 5 ∷ []) $
+          move ! (11 ∷ []) $ use1 W (‵ (finally u8 γ₃ rs)) unused-rows $ move ! (12 ∷ []) $ use1 W (‵ (finally T.the-row γ ys)) unused-accounts $
+          move ! (11 ∷ []) $ use1 W (‵ (last-due (now due))) unused-due $ move ! (3 ∷ []) $ split ! $ keep ! (7 ∷ 8 ∷ 9 ∷ 10 ∷ 11 ∷ 0 ∷ 2 ∷ 4 ∷ 3 ∷ 5 ∷ []) $
           by ! (exits (now due) (ws .0) rs ys refl refl (charges-none us (now due) limit ys camera asked (leb→le n camera absent) e))))))))
           (λ present. skips ! $ by ! (starts (nleb→lt n camera present)))
 
@@ -651,35 +516,9 @@ module _ {M : Type 1} (𝓤 : URA M) (H : Heap 𝓤) (A : Atoms 𝓤) (W : Given
   enters C Λ cd P k =
       qed W ((‵ (flft κ₀ q₀) ⊛ ‵ (flft κ₁ q₁) ⊛ ‵ (flft κ₂ q₂) ⊛ ‵ (flft κ₃ q₃) ⊛ ‵ (flft κ₄ q₄) ⊛ ‵ (flft κ₅ q₅) ⊛ ‵ ftrue)
       ∷ ‵ (owns (ShrRef (named 0) κ₀ (Array u32 8) ∷ MutRef (named 1) κ₁ u64 ∷ u64 ∷ ShrSlice (named 2) κ₂ u8 ∷ MutSlice (named 3) κ₃ u8 ∷ MutSlice (named 4) κ₄ T.the-row ∷ usize ∷ u64 ∷ MutRef (named 5) κ₅ words ∷ []) x at) ∷ []) ∵
-      split ! $
-      move ! (1 ∷ []) $
-      split ! $
-      move ! (1 ∷ []) $
-      split ! $
-      move ! (1 ∷ []) $
-      split ! $
-      move ! (1 ∷ []) $
-      split ! $
-      move ! (1 ∷ []) $
-      split ! $
-      move ! (7 ∷ []) $
-      fsplit ! $
-      move ! (1 ∷ []) $
-      fsplit ! $
-      move ! (1 ∷ []) $
-      fsplit ! $
-      drop ! $
-      fsplit ! $
-      move ! (1 ∷ []) $
-      fsplit ! $
-      move ! (1 ∷ []) $
-      fsplit ! $
-      move ! (1 ∷ []) $
-      fsplit ! $
-      drop ! $
-      fsplit ! $
-      drop ! $
-      fsplit ! $
+      split ! $ move ! (1 ∷ []) $ split ! $ move ! (1 ∷ []) $ split ! $ move ! (1 ∷ []) $ split ! $ move ! (1 ∷ []) $ split ! $ move ! (1 ∷ []) $ split ! $
+      move ! (7 ∷ []) $ fsplit ! $ move ! (1 ∷ []) $ fsplit ! $ move ! (1 ∷ []) $ fsplit ! $ drop ! $ fsplit ! $ move ! (1 ∷ []) $ fsplit ! $
+      move ! (1 ∷ []) $ fsplit ! $ move ! (1 ∷ []) $ fsplit ! $ drop ! $ fsplit ! $ drop ! $ fsplit ! $
       keep ! (13 ∷ 12 ∷ 11 ∷ 10 ∷ 9 ∷ 7 ∷ 6 ∷ 5 ∷ 4 ∷ 3 ∷ 2 ∷ 0 ∷ []) $
       enter ! C Λ (fn cd) (setv ∷ duev ∷ vint w64 address ∷ fv ∷ rv ∷ sv ∷ vint w64 camera ∷ vint w64 limit ∷ ansv ∷ []) _ $
       alloc1 ! (λ l₀. alloc1 ! (λ l₁. alloc1 ! (λ l₂. alloc1 ! (λ l₃. alloc1 ! (λ l₄. alloc1 ! (λ l₅. alloc1 ! (λ l₆. alloc1 ! (λ l₇. alloc1 ! (λ l₈. alloc1 ! (λ l₉. alloc1 ! (λ l₁₀. alloc1 ! (λ l₁₁. alloc1 ! (λ l₁₂. alloc1 ! (λ l₁₃. alloc1 ! (λ l₁₄. alloc1 ! (λ l₁₅. alloc1 ! (λ l₁₆. alloc1 ! (λ l₁₇. alloc1 ! (λ l₁₈. alloc1 ! (λ l₁₉. alloc1 ! (λ l₂₀. alloc1 ! (λ l₂₁. alloc1 ! (λ l₂₂. alloc1 ! (λ l₂₃. alloc1 ! (λ l₂₄. alloc1 ! (λ l₂₅. alloc1 ! (λ l₂₆. alloc1 ! (λ l₂₇. alloc1 ! (λ l₂₈. alloc0 ! $ params1 ! $
