@@ -1,5 +1,5 @@
-// One row allowance for a bank of cameras: the grant, by a camera's own account and what is left of the common part. The
-// two functions over the lent list of accounts are those of the C interface (crates/colwythar/src/bank_calls.rt).
+// One row allowance for a bank of cameras: the grant, by a camera's own account and what is left of the common part.
+// The two functions over the lent list of accounts are those of the C interface (crates/colwythar/src/bank_calls.rt).
 mod accounts;
 
 pub use accounts::Account;
@@ -48,8 +48,8 @@ fn judged(answer: Answer, room: usize, could: usize) -> Answer
     answer
 }
 
-// The answer of the unit call on a session of these settings with this address due. `Session::unit` has these steps, too:
-// with two callers it would not be in line with the plain unit call any more (docs/DECISIONS.md).
+// The answer of the unit call on a session of these settings with this address due. `Session::unit` has these steps,
+// too: with two callers it would not be in line with the plain unit call any more (docs/DECISIONS.md).
 fn unit_answer(
     settings: Settings,
     due: usize,
@@ -92,9 +92,9 @@ fn unit_within(
     }
 }
 
-// The grant on a camera's own account: 38 where the accounts hold more than there is, the unit call's refusals, and 36,
-// after 14, where the table has more rows than could be had. A refusal leaves the account, the session and the buffer as
-// they were.
+// The grant on a camera's own account: 38 where the accounts hold more than there is, the unit call's refusals, and
+// 36, after 14, where the table has more rows than could be had. A refusal leaves the account, the session and the
+// buffer as they were.
 pub fn grant(
     left: Left,
     own: Account,

@@ -46,9 +46,9 @@ fn grant_unit(
     granted.account
 }
 
-// The unit call of a camera, whose table is granted where the accounts and the limit leave it room: refusals 37, 38, then
-// 22, 20, 21 and 11 to 14, then 36, or the number of rows. An accepted call moves the due address on and charges the
-// camera's account.
+// The unit call of a camera, whose table is granted where the accounts and the limit leave it room: refusals 37, 38,
+// then 22, 20, 21 and 11 to 14, then 36, or the number of rows. An accepted call moves the due address on and charges
+// the camera's account.
 #[no_mangle]
 pub extern "C" fn colwythar_grant(
     settings: &[u32; 8],
