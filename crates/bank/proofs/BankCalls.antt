@@ -64,12 +64,12 @@ module _ (accounts : List Account) (camera n : ℕ) (there : camera < length acc
   drawn-granted = sum-set beyond accounts camera (charged (accountOf accounts camera) (Accepted n)) there
 
   -- where 38 is passed and so many could be had, no more is drawn than the common part has
-  pub undrawn-granted : (limit : ℕ) → Passes limit accounts camera → n ≤ couldHave limit accounts camera → shares later + drawn later ≤ limit
-  undrawn-granted limit p l =
+  pub fits-granted : (limit : ℕ) → Passes limit accounts camera → n ≤ couldHave limit accounts camera → shares later + drawn later ≤ limit
+  fits-granted limit p l =
       let own = accountOf accounts camera in
       let s = shares-granted in
-      let r = p .reserved in
-      let u = p .undrawn in
+      let r = p .shares-fit in
+      let u = p .drawn-fit in
       let m : n ≤ unused own + (commonPart limit accounts - drawn accounts) = least-left _ _ _ n l in
       let w = within-part (drawn accounts) (drawn later) (commonPart limit accounts) (own .share) (own .used) n u m drawn-granted in
       omega arith
@@ -96,7 +96,7 @@ pub record Kept (limit reserved long : ℕ) (accounts : List Account) (units : L
   pub most : totalUse accounts ≤ limit
   pub shared : shares accounts ≡ reserved
   pub lasting : length accounts ≡ long
-  pub undrawn : shares accounts ≤ limit → shares accounts + drawn accounts ≤ limit
+  pub fits : shares accounts ≤ limit → shares accounts + drawn accounts ≤ limit
 
 pub kept-period : (limit : ℕ) (accounts : List Account) → Kept limit (shares accounts) (length accounts) (newPeriod accounts) []
 unfolding lists.joined
@@ -104,7 +104,7 @@ kept-period limit accounts =
     let u = use-cleared accounts in
     let s = shares-cleared accounts in
     let d = drawn-cleared accounts in
-    record { used = u; most = omega arith; shared = s; lasting = length-map accounts cleared; undrawn = λ l. omega arith }
+    record { used = u; most = omega arith; shared = s; lasting = length-map accounts cleared; fits = λ l. omega arith }
 
 module _ {limit reserved long : ℕ} {accounts : List Account} {units : List Taken} (kept : Kept limit reserved long accounts units) where
   kept-granted : (us : Units) (due camera : ℕ) (c : Call) (left : List ℕ) {n : ℕ} → grantIn us due limit accounts camera c .answer ≡ Accepted n
@@ -114,14 +114,14 @@ module _ {limit reserved long : ℕ} {accounts : List Account} {units : List Tak
       let there = g .0 .there in
       let u = use-granted accounts camera n there in
       let s = shares-granted accounts camera n there in
-      let w = undrawn-granted accounts camera n there limit (g .0) (g .1) in
+      let w = fits-granted accounts camera n there limit (g .0) (g .1) in
       let m = use-most (accountsAfter accounts camera (Accepted n)) in
       let unit : Taken = record { address = c .address; flags = c .flags; count = n; buffer = left } in
       let j = rows-joined units (unit ∷ []) in
       let o = rows-one unit in
       let k = kept .used in
       let sh = kept .shared in
-      record { used = omega arith; most = omega arith; shared = omega arith; lasting = length-set accounts camera (charged (accountOf accounts camera) (Accepted n)) ∙ kept .lasting; undrawn = λ l. w }
+      record { used = omega arith; most = omega arith; shared = omega arith; lasting = length-set accounts camera (charged (accountOf accounts camera) (Accepted n)) ∙ kept .lasting; fits = λ l. w }
 
   kept-refused : (camera : ℕ) (c : Call) (left : List ℕ) (number place : ℕ)
       → Kept limit reserved long (accountsAfter accounts camera (Refused number place)) (units ++ lists.prepend (taken c (Refused number place) left) [])
@@ -132,7 +132,7 @@ module _ {limit reserved long : ℕ} {accounts : List Account} {units : List Tak
   kept-call : (k : BankCall) → Kept limit reserved long (afterCall limit accounts k) (grantedBy limit accounts units k)
   kept-call new-period =
       let p = kept-period limit accounts in
-      record { used = p .used; most = p .most; shared = p .shared ∙ kept .shared; lasting = p .lasting ∙ kept .lasting; undrawn = p .undrawn }
+      record { used = p .used; most = p .most; shared = p .shared ∙ kept .shared; lasting = p .lasting ∙ kept .lasting; fits = p .fits }
   kept-call (a-grant t camera c) = go (grant limit accounts t camera c .answer) refl
     where
       go : (answer : Answer) → grant limit accounts t camera c .answer ≡ answer

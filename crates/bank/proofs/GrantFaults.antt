@@ -17,16 +17,17 @@ use Rattle.unit.specs.Units.{Units}
 use Rattle.unit.specs.Exactly.{OneOf, AcceptedOr}
 use Rattle.unit.specs.Faults.{Decides}
 use Rattle.unit.proofs.Decided.{decides, answer-fault}
+use Rattle.unit.proofs.Numbers.{not-listed}
 use Rattle.unit.proofs.Sound.{Sound}
 use Rattle.picture.specs.State.{Call, callIn, nextDue}
 use Rattle.picture.specs.CallFaults.{CallFault, callNumbers}
 use Rattle.picture.proofs.CallFaults.{call-decides}
 use Rattle.bank.specs.declared.accounts.Account.{Account}
-use Rattle.bank.specs.Accounts.{none, shares, drawn, commonPart, overdrawn, leftOf}
+use Rattle.bank.specs.Accounts.{none, shares, drawn, commonPart, exceeded, leftOf}
 use Rattle.bank.specs.Granting.{within}
 use Rattle.bank.specs.Bank.{accountOf, grantIn, accountsAfter}
 use Rattle.bank.specs.GrantFaults.{Passes, couldHave, GrantFault, no-account, shares-exceed, part-overdrawn, unit-fault, too-many, grantNumbers}
-use Rattle.bank.proofs.OnAccount.{on-overdrawn, on-passed}
+use Rattle.bank.proofs.OnAccount.{on-exceeded, on-passed}
 use Rattle.bank.proofs.Grants.{grant-absent, grant-there}
 
 -- ---- a unit call within so many rows
@@ -60,11 +61,11 @@ module _ (us : Units) (due limit : ℕ) (accounts : List Account) (camera : ℕ)
       go (no h) s d = absent (omega arith)
       go (yes h) (yes s) d = exceeding h s
       go (yes h) (no s) (yes d) = overdrawing h (omega arith) d
-      go (yes h) (no s) (no d) = passing (record { there = h; reserved = omega arith; undrawn = omega arith })
+      go (yes h) (no s) (no d) = passing (record { there = h; shares-fit = omega arith; drawn-fit = omega arith })
 
   -- 38
-  refused-38 : camera < length accounts → overdrawn limit accounts ≡ true → grantIn us due limit accounts camera c ≡ refused 38 0 (c .buffer)
-  refused-38 h e = grant-there us due limit accounts camera c h ∙ on-overdrawn (leftOf limit accounts) (accountOf accounts camera) e (c .buffer) (callIn us due c)
+  refused-38 : camera < length accounts → exceeded limit accounts ≡ true → grantIn us due limit accounts camera c ≡ refused 38 0 (c .buffer)
+  refused-38 h e = grant-there us due limit accounts camera c h ∙ on-exceeded (leftOf limit accounts) (accountOf accounts camera) e (c .buffer) (callIn us due c)
 
   pub grant-exceeding : camera < length accounts → limit < shares accounts → grantIn us due limit accounts camera c ≡ refused 38 0 (c .buffer)
   grant-exceeding h s = refused-38 h (rw (lt-ltb limit (shares accounts) s))
@@ -76,7 +77,7 @@ module _ (us : Units) (due limit : ℕ) (accounts : List Account) (camera : ℕ)
   pub grant-passing : Passes limit accounts camera → grantIn us due limit accounts camera c ≡ within (couldHave limit accounts camera) (c .buffer) (callIn us due c)
   grant-passing p =
       grant-there us due limit accounts camera c (p .there)
-      ∙ on-passed (leftOf limit accounts) (accountOf accounts camera) (rw (le-ltb limit (shares accounts) (p .reserved), le-ltb (commonPart limit accounts) (drawn accounts) (p .undrawn))) refl (c .buffer) (callIn us due c)
+      ∙ on-passed (leftOf limit accounts) (accountOf accounts camera) (rw (le-ltb limit (shares accounts) (p .shares-fit), le-ltb (commonPart limit accounts) (drawn accounts) (p .drawn-fit))) refl (c .buffer) (callIn us due c)
 
   module _ (law : Sound us) where
     -- ---- the unit call's own
@@ -142,6 +143,14 @@ module _ (us : Units) (due limit : ℕ) (accounts : List Account) (camera : ℕ)
     grant-number number place (part-overdrawn h s d) = inr (inl refl)
     grant-number number place (unit-fault p f) = inr (inr (sooner number callNumbers (call-number f)))
     grant-number number place (too-many p i l) = inr (inr (inr (inr (inr (inr (inr (inr (inr (inl refl)))))))))
+
+    -- 38 is only of the accounts
+    pub none-38 : {number place : ℕ} → Passes limit accounts camera → GrantFault us due limit accounts camera c number place → ¬ (number ≡ 38)
+    none-38 p (no-account h) e = omega arith
+    none-38 p (shares-exceed h s) e = let r = p .shares-fit in omega arith
+    none-38 p (part-overdrawn h s d) e = let r = p .drawn-fit in omega arith
+    none-38 p (unit-fault q f) e = not-listed 38 callNumbers refl (subst (λ (n : ℕ). OneOf n callNumbers) e (call-number f))
+    none-38 p (too-many q i l) e = omega arith
 
     -- a session, by the address due, the accounts and the buffer stay as they were
     pub grant-decides : {Session : Type 0} (at-due : ℕ → Session)

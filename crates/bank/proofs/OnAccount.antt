@@ -24,7 +24,8 @@ use Rattle.picture.proofs.StateCalls.{accepted-here}
 use Rattle.bank.specs.declared.accounts.Account.{Account}
 use Rattle.bank.specs.declared.accounts.Left.{Left}
 use Rattle.bank.specs.Accounts.{could, charged}
-use Rattle.bank.specs.Granting.{allowed, within, onAccount, judged, Grants}
+use Rattle.bank.specs.Granting.{allowed, within, onAccount}
+use Rattle.bank.specs.Steps.{judged, Grants}
 use Rattle.bank.proofs.Parts.{part-call}
 
 -- ---- the unit call within so many rows
@@ -89,11 +90,11 @@ within-most could b o {count} e = go (o .answer) refl e
 -- ---- what is returned
 
 module _ (left : Left) (own : Account) where
-  pub on-overdrawn : left .overdrawn ≡ true → (b : List ℕ) (o : Outcome) → onAccount left own b o ≡ refused 38 0 b
+  pub on-exceeded : left .exceeded ≡ true → (b : List ℕ) (o : Outcome) → onAccount left own b o ≡ refused 38 0 b
   unfolding onAccount
-  on-overdrawn e b o = rw e
+  on-exceeded e b o = rw e
 
-  pub on-passed : left .overdrawn ≡ false → {n : ℕ} → n ≡ could (left .rows) own → (b : List ℕ) (o : Outcome) → onAccount left own b o ≡ within n b o
+  pub on-passed : left .exceeded ≡ false → {n : ℕ} → n ≡ could (left .rows) own → (b : List ℕ) (o : Outcome) → onAccount left own b o ≡ within n b o
   unfolding onAccount
   on-passed e i b o = rw (e, i)
 
@@ -106,11 +107,11 @@ module _ (left : Left) (own : Account) where
     }
 
     -- 38
-    pub grants-none : left .overdrawn ≡ true → Grants left own t c (record { account = own; called = record { session = t; answer = Refused 38 0 } }) (c .buffer)
-    grants-none e = returned-by (on-overdrawn e (c .buffer) (unitCall t c)) (record { returns = refl; leaves = refl }) refl
+    pub grants-none : left .exceeded ≡ true → Grants left own t c (record { account = own; called = record { session = t; answer = Refused 38 0 } }) (c .buffer)
+    grants-none e = returned-by (on-exceeded e (c .buffer) (unitCall t c)) (record { returns = refl; leaves = refl }) refl
 
     -- the unit call
-    pub grants-within : left .overdrawn ≡ false → {n : ℕ} → n ≡ could (left .rows) own → {called : Called} {rows : List ℕ}
+    pub grants-within : left .exceeded ≡ false → {n : ℕ} → n ≡ could (left .rows) own → {called : Called} {rows : List ℕ}
         → Returns (returned t) (within n (c .buffer) (unitCall t c)) called rows → {account : Account} → account ≡ charged own (called .answer)
         → Grants left own t c (record { account = account; called = called }) rows
     grants-within e i r a = returned-by (on-passed e i (c .buffer) (unitCall t c)) r (a ∙ ap (λ (x : Called). charged own (x .answer)) (r .returns))

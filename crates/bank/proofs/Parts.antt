@@ -25,7 +25,8 @@ use Rattle.picture.specs.declared.state.State.the-variants as state
 use Rattle.picture.specs.State.{Call, call, stateOf, onState, callIn}
 use Rattle.picture.specs.CallFaults.{CallFault, call-settings, call-past, call-complete, call-address, call-flags, call-room}
 use Rattle.picture.proofs.CallFaults.{call-decides}
-use Rattle.bank.specs.Granting.{within, judged}
+use Rattle.bank.specs.Granting.{within}
+use Rattle.bank.specs.Steps.{judged}
 
 -- ---- a unit call as a run, which does not depend on the buffer
 

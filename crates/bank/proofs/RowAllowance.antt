@@ -22,11 +22,12 @@ use Rattle.bank.specs.Accounts.{unused, shares, drawn, commonPart, leftO
 use Rattle.bank.specs.Granting.{within}
 use Rattle.bank.specs.Bank.{accountOf}
 use Rattle.bank.specs.GrantFaults.{Passes, couldHave}
-use Rattle.bank.specs.BankCalls.{grant, BankCall, accountsIn, grantedSince, afterCalls, grantedIn, Asked, grantOf, grantedOn}
+use Rattle.bank.specs.BankCalls.{grant, BankCall, accountsIn, grantedSince, afterCalls, grantedIn}
+use Rattle.bank.specs.SessionGrants.{Asked, grantOf, grantedOn}
 use Rattle.bank.specs.RowAllowance.{AfterCalls, RowAllowance}
 use Rattle.bank.proofs.Sums.{one-most, held-is}
 use Rattle.bank.proofs.Grants.{grant-absent}
-use Rattle.bank.proofs.GrantFaults.{within-refused, within-fits, within-more, grant-passing, grant-decides}
+use Rattle.bank.proofs.GrantFaults.{within-refused, within-fits, within-more, grant-passing, none-38, grant-decides}
 use Rattle.bank.proofs.BankCalls.{grant-granted, Kept, kept-period, kept-calls}
 
 -- ---- one grant
@@ -39,6 +40,21 @@ share-could share used left n h = omega arith
 counts : (held left : ℕ) → held + left ≤ 4294967295 → min left (4294967295 - held) ≡ left
 counts held left h = omega arith
 
+-- the use, of 32 bits, can count what the share and the limit allow
+whole : (limit : ℕ) (accounts : List Account) (camera : ℕ) → Passes limit accounts camera → limit < 4294967296
+    → couldHave limit accounts camera ≡ unused (accountOf accounts camera) + leftOf limit accounts .rows
+whole limit accounts camera p l =
+    let own = accountOf accounts camera in
+    let r = p .shares-fit in
+    let u = p .drawn-fit in
+    let o = one-most held accounts camera (p .there) in
+    let s = held-is accounts in
+    ap (λ (m : ℕ). unused own + m) (counts (held own) (commonPart limit accounts - drawn accounts) (omega arith))
+
+-- and no more than its bits, whatever the limit
+counted : (share used left : ℕ) → share < 4294967296 → (share - used) + min left (4294967295 - (share + (used - share))) ≡ min ((share - used) + left) (4294967295 - used)
+counted share used left h = omega arith
+
 module _ (limit : ℕ) (accounts : List Account) (t : Session) (camera : ℕ) (c : Call) {n : ℕ} (e : unitCall t c .answer ≡ Accepted n) (p : Passes limit accounts camera) where
   -- a table is granted where so many rows could be had, and else refused with 36
   pub grant-fits : n ≤ couldHave limit accounts camera → grant limit accounts t camera c ≡ unitCall t c
@@ -50,24 +66,14 @@ module _ (limit : ℕ) (accounts : List Account) (t : Session) (camera : ℕ) (c
       let f : Refused 36 (couldHave limit accounts camera) ≡ Accepted n = ap (λ (o : Outcome). o .answer) (sym w ∙ g) ∙ e in
       never (cc)
 
-  -- the use, of 32 bits, can count what the share and the limit allow
-  pub whole : limit < 4294967296 → couldHave limit accounts camera ≡ unused (accountOf accounts camera) + leftOf limit accounts .rows
-  whole l =
-      let own = accountOf accounts camera in
-      let r = p .reserved in
-      let u = p .undrawn in
-      let o = one-most held accounts camera (p .there) in
-      let s = held-is accounts in
-      ap (λ (m : ℕ). unused own + m) (counts (held own) (commonPart limit accounts - drawn accounts) (omega arith))
-
   exactly : limit < 4294967296 → (grant limit accounts t camera c ≡ unitCall t c) ↔ (n ≤ unused (accountOf accounts camera) + leftOf limit accounts .rows)
   exactly l =
-      let w = whole l in
+      let w = whole limit accounts camera p l in
       (λ g. go g (decLt (couldHave limit accounts camera) n), λ h. grant-fits (omega arith))
     where
       go : grant limit accounts t camera c ≡ unitCall t c → Dec (couldHave limit accounts camera < n) → n ≤ unused (accountOf accounts camera) + leftOf limit accounts .rows
       go g (yes h) = absurd (grant-more h g)
-      go g (no h) = let w = whole l in omega arith
+      go g (no h) = let w = whole limit accounts camera p l in omega arith
 
 -- ---- the grant is the unit call
 
@@ -128,33 +134,45 @@ module _ (limit : ℕ) (accounts : List Account) (calls : List BankCall) where
   passes s camera h =
       let e = kept .shared in
       let l = kept .lasting in
-      let u = kept .undrawn (omega arith) in
-      record { there = omega arith; reserved = omega arith; undrawn = omega arith }
+      let u = kept .fits (omega arith) in
+      record { there = omega arith; shares-fit = omega arith; drawn-fit = omega arith }
+
+  absent-37 : (t : Session) (camera : ℕ) (c : Call) → length accounts ≤ camera → numberOf (grant limit present t camera c .answer) ≡ 37
+  absent-37 t camera c h =
+      let g = kept .lasting in
+      ap (λ (o : Outcome). numberOf (o .answer)) (grant-absent (unitsOf (t .settings)) (t .due) limit present camera c (omega arith))
+
+  never-38 : shares accounts ≤ limit → (t : Session) (camera : ℕ) (c : Call) → ¬ (numberOf (grant limit present t camera c .answer) ≡ 38)
+  never-38 s t camera c x = go (decLt camera (length accounts)) (grant limit present t camera c .answer) refl
+    where
+      go : Dec (camera < length accounts) → (answer : Answer) → grant limit present t camera c .answer ≡ answer → ⊥
+      go (no h) answer i = let z = absent-37 t camera c (omega arith) in omega arith
+      go (yes h) (Accepted n) i = let z = ap numberOf i in omega arith
+      go (yes h) (Refused number place) i =
+          let z = ap numberOf i in
+          let d = grant-decides (unitsOf (t .settings)) (t .due) limit present camera c (luma-sound (t .settings)) (λ due. due) in
+          none-38 (unitsOf (t .settings)) (t .due) limit present camera c (luma-sound (t .settings)) (passes s camera h) (d .refuses number place .0 i) (omega arith)
 
   module _ (s : shares accounts ≤ limit) (t : Session) (camera : ℕ) (c : Call) (n : ℕ) (e : unitCall t c .answer ≡ Accepted n) (l : n ≤ unused (accountOf present camera)) where
     granted : camera < length accounts → grant limit present t camera c ≡ unitCall t c
     granted h = grant-fits limit present t camera c e (passes s camera h) (share-could (accountOf present camera .share) (accountOf present camera .used) (leftOf limit present .rows) n l)
 
-    reserved : (¬ (numberOf (grant limit present t camera c .answer) ≡ 36)) × (¬ (numberOf (grant limit present t camera c .answer) ≡ 38))
-    reserved = go (decLt camera (length accounts))
+    reserved : ¬ (numberOf (grant limit present t camera c .answer) ≡ 36)
+    reserved x = go (decLt camera (length accounts))
       where
-        number-is : {o : Outcome} → grant limit present t camera c ≡ o → numberOf (grant limit present t camera c .answer) ≡ numberOf (o .answer)
-        number-is w = ap (λ (x : Outcome). numberOf (x .answer)) w
-
-        go : Dec (camera < length accounts) → (¬ (numberOf (grant limit present t camera c .answer) ≡ 36)) × (¬ (numberOf (grant limit present t camera c .answer) ≡ 38))
-        go (yes h) = let z = number-is (granted h) ∙ ap numberOf e in (λ x. omega arith, λ x. omega arith)
-        go (no h) =
-            let g = kept .lasting in
-            let z = number-is (grant-absent (unitsOf (t .settings)) (t .due) limit present camera c (omega arith)) in
-            (λ x. omega arith, λ x. omega arith)
+        go : Dec (camera < length accounts) → ⊥
+        go (yes h) = let z = ap (λ (o : Outcome). numberOf (o .answer)) (granted h) ∙ ap numberOf e in omega arith
+        go (no h) = let z = absent-37 t camera c (omega arith) in omega arith
 
   after-calls : AfterCalls limit accounts calls
-  after-calls = record { total = kept .used; enough = let m = kept .most in omega arith; reserved = reserved; granted = λ s t camera c n e h l. granted s t camera c n e l h }
+  after-calls = record { total = kept .used; enough = let m = kept .most in omega arith; never-38 = never-38; reserved = reserved; granted = λ s t camera c n e h l. granted s t camera c n e l h }
 
 pub row-allowance : RowAllowance
 row-allowance = record {
   decided = λ limit accounts t camera c. grant-decides (unitsOf (t .settings)) (t .due) limit accounts camera c (luma-sound (t .settings)) (λ due. record { settings = t .settings; due = due });
   exactly = λ limit accounts t camera c n p l e. exactly limit accounts t camera c e p l;
+  place = whole;
+  counted = λ limit accounts camera h. counted (accountOf accounts camera .share) (accountOf accounts camera .used) (leftOf limit accounts .rows) h;
   unit-call = unit-call;
   session = session;
   calls = after-calls;

@@ -11,8 +11,9 @@ use lib.ListN.{length, getD, set}
 use borrow.Author.Tests.{lt-ltb, le-ltb}
 use Rattle.bank.specs.declared.accounts.Account.{Account}
 use Rattle.bank.specs.declared.accounts.Left.{Left}
-use Rattle.bank.specs.Accounts.{none, sumOf, shares, totalUse, drawn, overdrawn, leftOf, held, all, leftAfter}
+use Rattle.bank.specs.Accounts.{none, sumOf, shares, totalUse, drawn, exceeded, leftOf, held}
 use Rattle.bank.specs.Bank.{newPeriod}
+use Rattle.bank.specs.Steps.{all, leftAfter}
 
 -- ---- a list of accounts
 
@@ -89,11 +90,11 @@ left-next left zero (y ∷ ys) h = refl
 left-next left (suc i) (y ∷ ys) h = left-next (leftAfter left y) i ys (le-of-suc-le-suc h)
 
 -- the same where the rows and the test are
-same-left : {m n : ℕ} {s t : Bool} → m ≡ n → s ≡ t → _≡_ {A = Left} (record { rows = m; overdrawn = s }) (record { rows = n; overdrawn = t })
-same-left e f = λ i. record { rows = e i; overdrawn = f i }
+same-left : {m n : ℕ} {s t : Bool} → m ≡ n → s ≡ t → _≡_ {A = Left} (record { rows = m; exceeded = s }) (record { rows = n; exceeded = t })
+same-left e f = λ i. record { rows = e i; exceeded = f i }
 
 left-sum : (rows : ℕ) (over : Bool) (ys : List Account)
-    → leftTo (record { rows = rows; overdrawn = over }) (length ys) ys ≡ record { rows = rows - sumOf held ys; overdrawn = over || ltb rows (sumOf held ys) }
+    → leftTo (record { rows = rows; exceeded = over }) (length ys) ys ≡ record { rows = rows - sumOf held ys; exceeded = over || ltb rows (sumOf held ys) }
 unfolding sumOf
 left-sum rows over [] = same-left (omega arith) (sym (ap (λ (t : Bool). over || t) (le-ltb rows 0 (omega arith)) ∙ or-false over))
 left-sum rows over (y ∷ ys) =

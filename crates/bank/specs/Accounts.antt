@@ -1,6 +1,6 @@
 -- R-12's accounts: "There is one account per camera .. : its reserved share and the rows used", and what they say together of the rows L that all cameras share.
 use Prim.Native.Nat.{ℕ, _+_, _-_, min}
-use mathlib.Core.Bool.{Bool, false, _||_}
+use mathlib.Core.Bool.{Bool, _||_}
 use mathlib.Core.List.{List, [], _∷_}
 use lib.Dec.{ltb}
 use Rattle.unit.specs.declared.Answer.{Answer}
@@ -62,18 +62,9 @@ abbrev pub commonPart : (limit : ℕ) → List Account → ℕ
 commonPart limit accounts = limit - shares accounts
 
 -- "38 when the accounts' shares exceed L or the common part is overdrawn"
-abbrev pub overdrawn : (limit : ℕ) → List Account → Bool
-overdrawn limit accounts = ltb limit (shares accounts) || ltb (commonPart limit accounts) (drawn accounts)
+abbrev pub exceeded : (limit : ℕ) → List Account → Bool
+exceeded limit accounts = ltb limit (shares accounts) || ltb (commonPart limit accounts) (drawn accounts)
 
 -- "what is left of the common part", and whether there is 38
 abbrev pub leftOf : (limit : ℕ) → List Account → Left
-leftOf limit accounts = record { rows = commonPart limit accounts - drawn accounts; overdrawn = overdrawn limit accounts }
-
--- ---- as the code finds it, account by account
-
--- what is left before the first account, and after one more
-abbrev pub all : (limit : ℕ) → Left
-all limit = record { rows = limit; overdrawn = false }
-
-abbrev pub leftAfter : Left → Account → Left
-leftAfter left a = record { rows = left .rows - held a; overdrawn = left .overdrawn || ltb (left .rows) (held a) }
+leftOf limit accounts = record { rows = commonPart limit accounts - drawn accounts; exceeded = exceeded limit accounts }

@@ -14,8 +14,8 @@ use Rattle.bank.specs.Bank.{accountOf}
 -- 37 and 38 are passed
 pub record Passes (limit : ℕ) (accounts : List Account) (camera : ℕ) : Type 0 where
   pub there : camera < length accounts
-  pub reserved : shares accounts ≤ limit
-  pub undrawn : drawn accounts ≤ commonPart limit accounts
+  pub shares-fit : shares accounts ≤ limit
+  pub drawn-fit : drawn accounts ≤ commonPart limit accounts
 
 -- the rows that could be had for a camera
 abbrev pub couldHave : (limit : ℕ) → List Account → (camera : ℕ) → ℕ

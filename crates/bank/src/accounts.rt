@@ -4,7 +4,8 @@ use unit::Answer;
 ghost use mathlib.Core.Path.{_≡_};
 ghost use Prim.Native.Nat.{ℕ, _+_, _-_, _≤_};
 ghost use Rattle.unit.specs.declared.Answer.the-variants.{Accepted as Answer·Accepted};
-ghost use Rattle.bank.specs.Accounts.{cleared, unused, held, could, all, leftAfter, charged};
+ghost use Rattle.bank.specs.Accounts.{cleared, unused, held, could, charged};
+ghost use Rattle.bank.specs.Steps.{all, leftAfter};
 
 // A camera's account: its reserved share, and the rows used since the last new period. A caller lends a list of them.
 #[repr(C)]
@@ -16,7 +17,7 @@ pub struct Account {
 // What is left of the common part; no row where the accounts hold more than there is.
 pub struct Left {
     pub rows: u64,
-    pub overdrawn: bool,
+    pub exceeded: bool,
 }
 
 // The account in a new period.
@@ -35,7 +36,7 @@ pub fn all_left(limit: u64) -> Left
 {
     Left {
         rows: limit,
-        overdrawn: false,
+        exceeded: false,
     }
 }
 
@@ -64,11 +65,11 @@ pub fn left_after(left: Left, a: Account) -> Left
     ensures { λ r. ⌜ r ≡ leftAfter left a ⌝ }
 {
     let rows = left.rows;
-    let overdrawn = left.overdrawn;
+    let exceeded = left.exceeded;
     let n = held(a);
     Left {
         rows: less(rows, n),
-        overdrawn: overdrawn | (rows < n),
+        exceeded: exceeded | (rows < n),
     }
 }
 

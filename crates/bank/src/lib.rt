@@ -18,7 +18,8 @@ ghost use Rattle.unit.specs.Answers.{Meets};
 ghost use Rattle.unit.specs.Luma.{unitsOf};
 ghost use Rattle.picture.specs.State.{call, callIn, Returns};
 ghost use Rattle.picture.specs.Session.{unitCall, returned};
-ghost use Rattle.bank.specs.Granting.{within, judged, Grants};
+ghost use Rattle.bank.specs.Granting.{within};
+ghost use Rattle.bank.specs.Steps.{judged, Grants};
 
 // What a grant returns: the camera's account afterwards, and what its unit call returns.
 pub struct Granted {
@@ -49,7 +50,7 @@ fn judged(answer: Answer, room: usize, could: usize) -> Answer
 }
 
 // The answer of the unit call on a session of these settings with this address due. `Session::unit` has these steps,
-// too: with two callers it would not be in line with the plain unit call any more (docs/DECISIONS.md).
+// too: with a second caller it would not be inlined into the plain unit call (docs/DECISIONS.md).
 fn unit_answer(
     settings: Settings,
     due: usize,
@@ -105,8 +106,8 @@ pub fn grant(
 ) -> Granted
     ensures { λ r. ⌜ Grants left own session (call address (now (flags .entry)) (now (rows .entry))) r (now (rows .exit)) ⌝ }
 {
-    let overdrawn = left.overdrawn;
-    if overdrawn {
+    let exceeded = left.exceeded;
+    if exceeded {
         return Granted {
             account: own,
             called: Called {

@@ -22,7 +22,7 @@ use denote.Triple.Statement.{Contract}
 use denote.Triple.Clauses.{ensured, lasts}
 use Rattle.bank.specs.declared.accounts.Account.{Account}
 use Rattle.bank.specs.declared.accounts.Left.{Left}
-use Rattle.bank.specs.Accounts.{all, leftAfter}
+use Rattle.bank.specs.Steps.{all, leftAfter}
 use Rattle.bank.proofs.accounts.Account as T
 use Rattle.bank.proofs.accounts.Account.Laws as T′
 use Rattle.bank.proofs.accounts.Left as U

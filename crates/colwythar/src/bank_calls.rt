@@ -4,6 +4,7 @@ use crate::put_answer;
 use bank::Account;
 use bank::Left;
 use picture::Session;
+use unit::Answer;
 ghost use mathlib.Core.Path.{_≡_};
 ghost use Rattle.unit.specs.declared.Answer.the-variants.{Refused as Answer·Refused};
 ghost use Rattle.settings.specs.Words.{settingsIn};
@@ -17,7 +18,7 @@ ghost use Rattle.colwythar.specs.BankWords.{ChargesOne, Charges};
 fn no_account(answer: &mut [u64; 2])
     ensures { λ _. ⌜ now (answer .exit) ≡ answerWords (Answer·Refused 37 0) ⌝ }
 {
-    *answer = [37, 0];
+    put_answer(Answer::Refused(37, 0), answer);
 }
 
 // The grant on the camera's own account, by what is left of the common part: the account afterwards.

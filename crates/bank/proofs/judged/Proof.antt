@@ -1,7 +1,7 @@
 use borrow.Author.Needs.{needs}
-use Rattle.bank.specs.Granting.{judged}
 use Rattle.bank.proofs.judged.Statement.{statement}
 use Rattle.bank.proofs.judged.Tie as tie
+use Rattle.bank.specs.Steps.{judged}
 
 returns : tie.Need-returns
 unfolding judged

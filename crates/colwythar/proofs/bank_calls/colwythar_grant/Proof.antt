@@ -60,7 +60,8 @@ use Rattle.unit.specs.Luma.{unitsOf}
 use Rattle.picture.specs.State.{Call, call}
 use Rattle.bank.specs.declared.accounts.Account.{Account}
 use Rattle.bank.specs.declared.accounts.Left.{Left}
-use Rattle.bank.specs.Accounts.{none, all, leftOf, leftAfter}
+use Rattle.bank.specs.Accounts.{none, leftOf}
+use Rattle.bank.specs.Steps.{all, leftAfter}
 use Rattle.bank.specs.Bank.{accountOf}
 use Rattle.bank.proofs.Sums.{leftTo, left-next, left-is}
 use Rattle.bank.proofs.accounts.Account as T
@@ -443,9 +444,17 @@ module _ {M : Type 1} (𝓤 : URA M) (H : Heap 𝓤) (A : Atoms 𝓤) (W : Given
           assigns ! (of-opd ! (load ! (from ! (stop !)) (look ! 32 refl))) (from ! (hop ! (look ! 37 refl) (stop !))) (store-raw ! 6 refl (LL.lawful T.the-type T′.the-laws 𝓤 H A W .typed r _ is .0)) $
           move ! (6 ∷ 0 ∷ 8 ∷ []) $ elem-put ! T.the-row fullShare ys camera r (v ∷ []) b o has $ move ! (0 ∷ 36 ∷ 37 ∷ 38 ∷ []) $
           closes-slice ! tt T.the-row ys (set ys camera r) (length-set ys camera r) b o $
-          assigns ! (of-opd ! (unit-lit !)) (from ! (stop !)) (init ! 17 refl (tt, tt)) $ returns ! (look ! 17 refl) $
-          forget ! 17 refl $ forget ! 18 refl $ forget ! 19 refl $ forget ! 20 refl $ forget ! 21 refl $ forget ! 22 refl $ forget ! 11 refl $ forget ! 23 refl $ forget ! 24 refl $ forget ! 25 refl $ forget ! 10 refl $ forget ! 9 refl $ forget ! 26 refl $ forget ! 27 refl $ forget ! 13 refl $ forget ! 14 refl $ forget ! 31 refl $ forget ! 32 refl $ forget ! 33 refl $ forget ! 34 refl $ forget ! 35 refl $ forget ! 36 refl $ forget ! 37 refl $
-          move ! (17 ∷ 38 ∷ []) $ free1 ! $ move ! (17 ∷ 37 ∷ []) $ free1 ! $ move ! (17 ∷ 36 ∷ []) $ free1 ! $ move ! (17 ∷ 35 ∷ []) $ free1 ! $ move ! (17 ∷ 34 ∷ []) $ free1 ! $ move ! (17 ∷ 33 ∷ []) $ free1 ! $ move ! (11 ∷ 32 ∷ []) $ free1 ! $ move ! (16 ∷ 31 ∷ []) $ free1 ! $ move ! (16 ∷ 30 ∷ []) $ free1 ! $ move ! (16 ∷ 29 ∷ []) $ free1 ! $ move ! (10 ∷ 28 ∷ []) $ free1 ! $ move ! (9 ∷ 27 ∷ []) $ free1 ! $ move ! (9 ∷ 26 ∷ []) $ free1 ! $ move ! (13 ∷ 25 ∷ []) $ free1 ! $ move ! (13 ∷ 24 ∷ []) $ free1 ! $ move ! (13 ∷ 23 ∷ []) $ free1 ! $ move ! (13 ∷ 22 ∷ []) $ free1 ! $ move ! (13 ∷ 21 ∷ []) $ free1 ! $ move ! (9 ∷ 20 ∷ []) $ free1 ! $ move ! (9 ∷ 19 ∷ []) $ free1 ! $ move ! (9 ∷ 18 ∷ []) $ free1 ! $ move ! (9 ∷ 17 ∷ []) $ free1 ! $ move ! (9 ∷ 16 ∷ []) $ free1 ! $ move ! (9 ∷ 15 ∷ []) $ free1 ! $ move ! (9 ∷ 14 ∷ []) $ free1 ! $ move ! (9 ∷ 13 ∷ []) $ free1 ! $ move ! (9 ∷ 12 ∷ []) $ free1 ! $ move ! (9 ∷ 11 ∷ []) $ free1 ! $ move ! (9 ∷ 10 ∷ []) $ free1 ! $ free0 ! $
+          assigns ! (of-opd ! (unit-lit !)) (from ! (stop !)) (init ! 17 refl (tt, tt)) $ returns ! (look ! 17 refl) $ forget ! 17 refl $ forget ! 18 refl $
+          forget ! 19 refl $ forget ! 20 refl $ forget ! 21 refl $ forget ! 22 refl $ forget ! 11 refl $ forget ! 23 refl $ forget ! 24 refl $
+          forget ! 25 refl $ forget ! 10 refl $ forget ! 9 refl $ forget ! 26 refl $ forget ! 27 refl $ forget ! 13 refl $ forget ! 14 refl $ forget ! 31 refl $
+          forget ! 32 refl $ forget ! 33 refl $ forget ! 34 refl $ forget ! 35 refl $ forget ! 36 refl $ forget ! 37 refl $ move ! (17 ∷ 38 ∷ []) $ free1 ! $
+          move ! (17 ∷ 37 ∷ []) $ free1 ! $ move ! (17 ∷ 36 ∷ []) $ free1 ! $ move ! (17 ∷ 35 ∷ []) $ free1 ! $ move ! (17 ∷ 34 ∷ []) $ free1 ! $
+          move ! (17 ∷ 33 ∷ []) $ free1 ! $ move ! (11 ∷ 32 ∷ []) $ free1 ! $ move ! (16 ∷ 31 ∷ []) $ free1 ! $ move ! (16 ∷ 30 ∷ []) $ free1 ! $
+          move ! (16 ∷ 29 ∷ []) $ free1 ! $ move ! (10 ∷ 28 ∷ []) $ free1 ! $ move ! (9 ∷ 27 ∷ []) $ free1 ! $ move ! (9 ∷ 26 ∷ []) $ free1 ! $
+          move ! (13 ∷ 25 ∷ []) $ free1 ! $ move ! (13 ∷ 24 ∷ []) $ free1 ! $ move ! (13 ∷ 23 ∷ []) $ free1 ! $ move ! (13 ∷ 22 ∷ []) $ free1 ! $
+          move ! (13 ∷ 21 ∷ []) $ free1 ! $ move ! (9 ∷ 20 ∷ []) $ free1 ! $ move ! (9 ∷ 19 ∷ []) $ free1 ! $ move ! (9 ∷ 18 ∷ []) $ free1 ! $
+          move ! (9 ∷ 17 ∷ []) $ free1 ! $ move ! (9 ∷ 16 ∷ []) $ free1 ! $ move ! (9 ∷ 15 ∷ []) $ free1 ! $ move ! (9 ∷ 14 ∷ []) $ free1 ! $
+          move ! (9 ∷ 13 ∷ []) $ free1 ! $ move ! (9 ∷ 12 ∷ []) $ free1 ! $ move ! (9 ∷ 11 ∷ []) $ free1 ! $ move ! (9 ∷ 10 ∷ []) $ free1 ! $ free0 ! $
           use1 W (‵ (finally T.the-row γ (set ys camera r))) (kept-slice T.the-row 4 κ₄ γ (set ys camera r)) $ move ! (3 ∷ []) $ split ! $ move ! (1 ∷ []) $
           split ! $ move ! (1 ∷ []) $ split ! $ move ! (1 ∷ []) $ split ! $ move ! (1 ∷ []) $ split ! $ keep ! (5 ∷ 4 ∷ 3 ∷ 2 ∷ 8 ∷ 0 ∷ 12 ∷ 9 ∷ 6 ∷ 10 ∷ []) $
           by ! (exits (ws .1 .1 .1 .0) (ws .1 .1 .1 .1 .1 .1 .1 .0) (ws .1 .1 .1 .1 .1 .1 .0) (set ys camera r) lw (length-set ys camera r) (charges-there us (now due) limit ys camera asked has whole-list e)))))))))
@@ -493,9 +502,16 @@ module _ {M : Type 1} (𝓤 : URA M) (H : Heap 𝓤) (A : Atoms 𝓤) (W : Given
           split ! $ move ! (1 ∷ []) $ heard ! (ws .0 ≡ answerWords (Refused 37 0)) (λ e.
           fsplit ! $ move ! (2 ∷ []) $ split ! $ move ! (1 ∷ []) $ feqL ! (λ eu.
           land ! (from ! (stop !)) (init ! 27 refl (subst (λ (u : Val). Holds (hasTy tyUnit u) × WT u) (sym (ap only eu)) (tt, tt))) $
-          assigns ! (of-opd ! (unit-lit !)) (from ! (stop !)) (init ! 59 refl (tt, tt)) $ returns-within ! Post refl (look ! 59 refl) $
-          forget ! 59 refl $ forget ! 57 refl $ forget ! 55 refl $ forget ! 53 refl $ forget ! 51 refl $ forget ! 49 refl $ forget ! 47 refl $ forget ! 45 refl $ forget ! 43 refl $ forget ! 41 refl $ forget ! 31 refl $ forget ! 29 refl $ forget ! 27 refl $ forget ! 25 refl $
-          move ! (59 ∷ 60 ∷ []) $ free1 ! $ move ! (57 ∷ 58 ∷ []) $ free1 ! $ move ! (55 ∷ 56 ∷ []) $ free1 ! $ move ! (53 ∷ 54 ∷ []) $ free1 ! $ move ! (51 ∷ 52 ∷ []) $ free1 ! $ move ! (49 ∷ 50 ∷ []) $ free1 ! $ move ! (47 ∷ 48 ∷ []) $ free1 ! $ move ! (45 ∷ 46 ∷ []) $ free1 ! $ move ! (43 ∷ 44 ∷ []) $ free1 ! $ move ! (41 ∷ 42 ∷ []) $ free1 ! $ move ! (39 ∷ 40 ∷ []) $ free1 ! $ move ! (37 ∷ 38 ∷ []) $ free1 ! $ move ! (35 ∷ 36 ∷ []) $ free1 ! $ move ! (33 ∷ 34 ∷ []) $ free1 ! $ move ! (31 ∷ 32 ∷ []) $ free1 ! $ move ! (29 ∷ 30 ∷ []) $ free1 ! $ move ! (27 ∷ 28 ∷ []) $ free1 ! $ move ! (25 ∷ 26 ∷ []) $ free1 ! $ move ! (23 ∷ 24 ∷ []) $ free1 ! $ move ! (21 ∷ 22 ∷ []) $ free1 ! $ move ! (19 ∷ 20 ∷ []) $ free1 ! $ move ! (17 ∷ 18 ∷ []) $ free1 ! $ move ! (15 ∷ 16 ∷ []) $ free1 ! $ move ! (13 ∷ 14 ∷ []) $ free1 ! $ move ! (11 ∷ 12 ∷ []) $ free1 ! $ move ! (9 ∷ 10 ∷ []) $ free1 ! $ move ! (7 ∷ 8 ∷ []) $ free1 ! $ move ! (5 ∷ 6 ∷ []) $ free1 ! $ move ! (3 ∷ 4 ∷ []) $ free1 ! $ free0 ! $
+          assigns ! (of-opd ! (unit-lit !)) (from ! (stop !)) (init ! 59 refl (tt, tt)) $ returns-within ! Post refl (look ! 59 refl) $ forget ! 59 refl $
+          forget ! 57 refl $ forget ! 55 refl $ forget ! 53 refl $ forget ! 51 refl $ forget ! 49 refl $ forget ! 47 refl $ forget ! 45 refl $
+          forget ! 43 refl $ forget ! 41 refl $ forget ! 31 refl $ forget ! 29 refl $ forget ! 27 refl $ forget ! 25 refl $ move ! (59 ∷ 60 ∷ []) $ free1 ! $
+          move ! (57 ∷ 58 ∷ []) $ free1 ! $ move ! (55 ∷ 56 ∷ []) $ free1 ! $ move ! (53 ∷ 54 ∷ []) $ free1 ! $ move ! (51 ∷ 52 ∷ []) $ free1 ! $
+          move ! (49 ∷ 50 ∷ []) $ free1 ! $ move ! (47 ∷ 48 ∷ []) $ free1 ! $ move ! (45 ∷ 46 ∷ []) $ free1 ! $ move ! (43 ∷ 44 ∷ []) $ free1 ! $
+          move ! (41 ∷ 42 ∷ []) $ free1 ! $ move ! (39 ∷ 40 ∷ []) $ free1 ! $ move ! (37 ∷ 38 ∷ []) $ free1 ! $ move ! (35 ∷ 36 ∷ []) $ free1 ! $
+          move ! (33 ∷ 34 ∷ []) $ free1 ! $ move ! (31 ∷ 32 ∷ []) $ free1 ! $ move ! (29 ∷ 30 ∷ []) $ free1 ! $ move ! (27 ∷ 28 ∷ []) $ free1 ! $
+          move ! (25 ∷ 26 ∷ []) $ free1 ! $ move ! (23 ∷ 24 ∷ []) $ free1 ! $ move ! (21 ∷ 22 ∷ []) $ free1 ! $ move ! (19 ∷ 20 ∷ []) $ free1 ! $
+          move ! (17 ∷ 18 ∷ []) $ free1 ! $ move ! (15 ∷ 16 ∷ []) $ free1 ! $ move ! (13 ∷ 14 ∷ []) $ free1 ! $ move ! (11 ∷ 12 ∷ []) $ free1 ! $
+          move ! (9 ∷ 10 ∷ []) $ free1 ! $ move ! (7 ∷ 8 ∷ []) $ free1 ! $ move ! (5 ∷ 6 ∷ []) $ free1 ! $ move ! (3 ∷ 4 ∷ []) $ free1 ! $ free0 ! $
           move ! (11 ∷ []) $ use1 W (‵ (finally u8 γ₃ rs)) unused-rows $ move ! (12 ∷ []) $ use1 W (‵ (finally T.the-row γ ys)) unused-accounts $
           move ! (11 ∷ []) $ use1 W (‵ (last-due (now due))) unused-due $ move ! (3 ∷ []) $ split ! $ keep ! (7 ∷ 8 ∷ 9 ∷ 10 ∷ 11 ∷ 0 ∷ 2 ∷ 4 ∷ 3 ∷ 5 ∷ []) $
           by ! (exits (now due) (ws .0) rs ys refl refl (charges-none us (now due) limit ys camera asked (leb→le n camera absent) e))))))))
