@@ -3,7 +3,7 @@
  *
  * Link with libcolwythar.a, for 64-bit x86-64 Linux (`bin/install PREFIX` puts it in place, with a pkg-config file). It
  * needs memcpy and memset, allocates nothing, keeps no state, and uses less than 16 KiB of stack. Each function is
- * proved to do what crates/colwythar/src says of it, for all settings, addresses, bytes and lengths.
+ * proved to do what crates/colwythar/src says of it, for all settings, addresses, bytes, lengths, accounts and limits.
  *
  * Settings are eight numbers: CTU side, MinCb side, MinQt side, M (greatest multi-type depth), MaxBt side, MaxTt side,
  * picture width, picture height, in luma samples. Those of H.265, for the functions colwythar_h265_..., are four: CTU

@@ -11,7 +11,8 @@ use crate::work::{Side, Way, Work};
 /// The most cameras of a bank here.
 const MOST: usize = 8;
 
-/// So much that no unit is refused without a new period.
+/// So much that no unit is refused, until after some four million units of 1,024 rows an account's use
+/// can be counted no further.
 const LIMIT: u64 = 1 << 40;
 
 thread_local! {

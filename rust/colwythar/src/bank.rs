@@ -17,7 +17,11 @@ pub struct Account {
 /// What the limit has beyond the sum of the shares is common. A camera may have the unused rows of its
 /// share and what is left of the common part; what it uses beyond its share is drawn from that.
 ///
-/// Proved, from the first call on:
+/// An account counts 32 bits of rows: where the limit is above 4,294,967,295, a camera may have at most
+/// that number less the rows used.
+///
+/// Proved of the engine's grants and new periods on one list of accounts, after a new period. A bank
+/// begins as a new period leaves it, and nothing else changes its accounts:
 /// - the used rows of all cameras are together the rows of the tables granted since the last new period;
 /// - they never exceed the limit;
 /// - where the shares sum to at most the limit, no table within its camera's unused share is refused with

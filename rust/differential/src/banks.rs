@@ -128,7 +128,8 @@ impl<S: Coding> Cameras<S> {
         let (rows, before) = (picture.rows(call), self.bank.clone());
         let Picture { settings, due } = picture;
         let outcome = engine.grant(rng, settings, due, &mut self.bank, camera, call);
-        self.ledger.grant(camera, rows, &outcome, [&before, &self.bank]);
+        let is_kept = self.ledger.grant(camera, rows, &outcome, [&before, &self.bank]);
+        engine.tally.grants.kept += u64::from(is_kept);
     }
 }
 

@@ -6,7 +6,7 @@ use samples::Rng;
 use crate::call::Call;
 use crate::coding::BankSide;
 use crate::engine::assert_read;
-use crate::ledger::{drawn, shares};
+use crate::ledger::{drawn, left, unused};
 use crate::{Coding, Engine, Entry, Outcome, UnitCall};
 
 impl<S: Coding> Engine<S> {
@@ -45,17 +45,21 @@ impl<S: Coding> Engine<S> {
             "a refusal changed {bank:?}: {}",
             input()
         );
-        self.count_grant(&before.1, bank, &outcome);
+        self.count_grant(&before.1, bank, camera, &outcome);
         assert_read(s, flags, &outcome);
         outcome
     }
 
-    /// Counts where the rows of a granted table were from.
-    fn count_grant(&mut self, before: &Bank, after: &Bank, outcome: &Outcome) {
+    /// Counts where the rows of a granted table were from, and why 36 was answered.
+    fn count_grant(&mut self, before: &Bank, after: &Bank, camera: u64, outcome: &Outcome) {
+        let (grants, value) = (&mut self.tally.grants, u128::from(outcome.value));
         if outcome.number == 0 {
-            let left = u128::from(before.limit) - shares(before) - drawn(before);
-            let drew = drawn(after) > drawn(before);
-            self.tally.count_grant(drew, u128::from(outcome.value) > left);
+            grants.drew += u64::from(drawn(after) > drawn(before));
+            grants.needed_share += u64::from(value > left(before));
+        }
+        if outcome.number == 36 {
+            let unused = u128::from(unused(&before.accounts[camera as usize]));
+            grants.uncounted += u64::from(unused + left(before) > value);
         }
     }
 

@@ -17,13 +17,23 @@ fn sum(bank: &Bank, number: impl Fn(&Account) -> u32) -> u128 {
 }
 
 /// The rows reserved for all cameras.
-pub(crate) fn shares(bank: &Bank) -> u128 {
+fn shares(bank: &Bank) -> u128 {
     sum(bank, |account| account.share)
 }
 
 /// The rows that are drawn from the common part.
 pub(crate) fn drawn(bank: &Bank) -> u128 {
     sum(bank, |account| account.used - account.used.min(account.share))
+}
+
+/// What is left of the common part; the shares and what is drawn are at most the limit.
+pub(crate) fn left(bank: &Bank) -> u128 {
+    u128::from(bank.limit) - shares(bank) - drawn(bank)
+}
+
+/// What is left of an account's share.
+pub(crate) fn unused(account: &Account) -> u32 {
+    account.share - account.share.min(account.used)
 }
 
 impl Ledger {
@@ -39,26 +49,29 @@ impl Ledger {
     }
 
     /// Asserts the laws of a grant: of its outcome and the banks before and after it. `rows` are those of the
-    /// table, where the unit call alone gives one.
+    /// table, where the unit call alone gives one. Answers whether it had to be granted although the common
+    /// part had too little left.
     pub fn grant(
         &mut self,
         camera: u64,
         rows: Option<u64>,
         outcome: &Outcome,
         [before, after]: [&Bank; 2],
-    ) {
-        let Some(granted) = &mut self.granted else { return };
+    ) -> bool {
+        let Some(granted) = &mut self.granted else { return false };
         if outcome.number == 0 {
             *granted += outcome.value;
         }
         self.assert_total(after);
-        let account = before.accounts.get(camera as usize);
-        let unused = account.map(|account| account.share - account.share.min(account.used));
-        let is_within = rows.zip(unused).is_some_and(|(rows, unused)| rows <= unused.into());
-        if is_within && shares(before) <= before.limit.into() {
-            let number = outcome.number;
-            assert!(number != 36 && number != 38, "{number} within a share: {before:?} {camera}");
+        if shares(before) > before.limit.into() {
+            return false;
         }
+        let number = outcome.number;
+        assert_ne!(number, 38, "shares that the limit holds: {before:?} {camera}");
+        let unused = before.accounts.get(camera as usize).map(unused);
+        let is_within = rows.zip(unused).is_some_and(|(rows, unused)| rows <= unused.into());
+        assert!(!is_within || number != 36, "36 within a share: {before:?} {camera}");
+        is_within && rows.is_some_and(|rows| u128::from(rows) > left(before))
     }
 
     /// Total use equals the rows granted, and does not exceed the limit.

@@ -5,6 +5,7 @@ use std::marker::PhantomData;
 
 use h266::Answer;
 
+use crate::grant_counts::GrantCounts;
 use crate::Coding;
 
 /// One above the greatest number of a refusal.
@@ -69,15 +70,15 @@ pub struct Tally<S> {
     answers: [[u64; NUMBERS]; Entry::ALL.len()],
     /// Accepted comparisons by what they answered.
     finer: [u64; 4],
-    /// Grants that drew on the common part, and grants of more rows than it had left.
-    granted: [u64; 2],
+    /// Which grants there were.
+    pub grants: GrantCounts,
     coding: PhantomData<S>,
 }
 
 impl<S: Coding> Default for Tally<S> {
     fn default() -> Self {
         let answers = [[0; NUMBERS]; Entry::ALL.len()];
-        Self { answers, finer: [0; 4], granted: [0; 2], coding: PhantomData }
+        Self { answers, finer: [0; 4], grants: GrantCounts::default(), coding: PhantomData }
     }
 }
 
@@ -101,19 +102,6 @@ impl<S: Coding> Tally<S> {
         if number == 0 {
             self.finer[value as usize] += 1;
         }
-    }
-
-    /// Counts where the rows of a grant were from: whether it drew on the common part, and whether it had
-    /// more rows than that had left, so that it needed its share.
-    pub fn count_grant(&mut self, drew: bool, needed_share: bool) {
-        let [common, share] = &mut self.granted;
-        *common += u64::from(drew);
-        *share += u64::from(needed_share);
-    }
-
-    /// How many grants drew on the common part, and how many needed their share.
-    pub fn granted(&self) -> [u64; 2] {
-        self.granted
     }
 
     /// How often comparisons answered 0, 1, 2 and 3.
@@ -141,7 +129,7 @@ impl<S: Coding> Tally<S> {
             assert!(self.finer.iter().all(|&times| times >= least), "{self}");
         }
         if entry == Entry::Grant {
-            assert!(self.granted.iter().all(|&times| times >= least), "{self}");
+            assert!(self.grants.least() >= least, "{self}");
         }
         for number in [vec![0], entry.numbers::<S>()].concat() {
             let times = self.of(entry, number);
@@ -162,8 +150,7 @@ impl<S: Coding> fmt::Display for Tally<S> {
                 write!(f, " (equal {equal}, first {first}, second {second}, neither {neither})")?;
             }
             if entry == Entry::Grant {
-                let [common, share] = self.granted;
-                write!(f, " ({common} from the common part, {share} that needed their share)")?;
+                write!(f, " ({})", self.grants)?;
             }
             if entry != Entry::NewPeriod {
                 write!(f, "; refused")?;

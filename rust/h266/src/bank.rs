@@ -1,4 +1,5 @@
-//! One allowance of rows for a bank of cameras, written from the paragraph that asks for it.
+//! One allowance of rows for a bank of cameras, written from the paragraph that asks for it; that a use is
+//! counted in 32 bits, and no table granted that it can't count, is the interface's.
 
 use crate::{unit, Answer, Refusal, Settings, MAX_ROWS};
 

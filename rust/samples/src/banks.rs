@@ -55,9 +55,10 @@ pub fn overwrite(rng: &mut Rng, bank: &mut Bank) {
     let scale = rng.pick(&SCALES);
     let new = account(rng, scale);
     let old = &mut bank.accounts[at];
-    match rng.below(4) {
+    match rng.below(5) {
         0 => *old = new,
         1 => old.used = new.used,
+        2 => old.used = u32::MAX - rng.below_u32(64),
         _ => old.used = old.share.saturating_add(rng.below_u32(8)),
     }
 }

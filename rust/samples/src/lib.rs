@@ -4,11 +4,10 @@
 //! generator with a fixed seed, so that every run sees the same inputs; `broken` lists every table
 //! that one small change makes of another, `small` settings with few trees, `brute` all trees of a
 //! small unit, `near` tables near theirs, `relatives` trees that changes make of others, and `banks` the
-//! accounts of cameras. The
-//! examples are those of document 01, the units with the most flags, one with the deepest rows, and the
-//! broken table that is the hardest to refuse. Trees are walked with the allowed splits of the crate
-//! `h266`, and `quads` has settings and trees of H.265, with the crate `h265`; the engine is not needed
-//! here.
+//! accounts of cameras. The examples are those of document 01, the units with the most flags, one with the
+//! deepest rows, and the broken table that is the hardest to refuse. Trees are walked with the allowed
+//! splits of the crate `h266`, and `quads` has settings and trees of H.265, with the crate `h265`; the
+//! engine is not needed here.
 //!
 //! ```
 //! use samples::{trees, Rng, Style};

@@ -97,9 +97,11 @@ fn a_camera_without_an_account() {
     cameras.grant(1, &[], refusal(37, 0));
     Cameras::new(9, &[]).grant(0, &ONE, refusal(37, 0));
     let Cameras { mut bank, mut sessions } = Cameras::new(9, &[4, 4]);
+    let (was, mut rows) = (bank.clone(), [0xa5; 8]);
     for camera in [2, 3, 1 << 32, usize::MAX] {
-        let answer = bank.grant(camera, &mut sessions[2], 0, &ONE, &mut [0; 8]);
-        assert_eq!(answer, refusal(37, 0));
+        let answer = bank.grant(camera, &mut sessions[2], 0, &ONE, &mut rows);
+        assert_eq!((answer, sessions[2].due()), (refusal(37, 0), 0));
+        assert_eq!((&bank, rows), (&was, [0xa5; 8]));
     }
 }
 

@@ -16,12 +16,12 @@ fn lists_of_calls() {
     let tally = &engine.tally;
     println!("{tally}");
     assert!(tally.calls() >= 200_000, "{tally}");
-    tally.assert_each(Entry::Grant, 500);
+    tally.assert_each(Entry::Grant, 200);
     tally.assert_each(Entry::NewPeriod, 5_000);
     for number in [0, 36, 37, 38] {
         assert!(tally.of(Entry::Grant, number) >= 10_000, "{tally}");
     }
-    assert!(tally.granted().iter().all(|&times| times >= 5_000), "{tally}");
+    assert!(tally.grants.drew >= 5_000 && tally.grants.kept >= 5_000, "{tally}");
 }
 
 /// Units of 1 to 4 rows in a picture of 32 by 32: whole, in two, in three and in four.
