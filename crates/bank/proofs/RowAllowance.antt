@@ -170,7 +170,7 @@ module _ (limit : ℕ) (accounts : List Account) (calls : List BankCall) where
 pub row-allowance : RowAllowance
 row-allowance = record {
   decided = λ limit accounts t camera c. grant-decides (unitsOf (t .settings)) (t .due) limit accounts camera c (luma-sound (t .settings)) (λ due. record { settings = t .settings; due = due });
-  exactly = λ limit accounts t camera c n p l e. exactly limit accounts t camera c e p l;
+  exactly = λ limit accounts t camera c n p l e. let x = exactly limit accounts t camera c e p l in (λ g. let y = x .0 g in omega arith, λ h. x .1 (omega arith));
   place = whole;
   counted = λ limit accounts camera h. counted (accountOf accounts camera .share) (accountOf accounts camera .used) (leftOf limit accounts .rows) h;
   unit-call = unit-call;
