@@ -9,7 +9,7 @@ pub struct GrantCounts {
     pub drew: u64,
     /// Those with more rows than the common part had left, so that they needed their share.
     pub needed_share: u64,
-    /// Of these, those that R-12's law says must be granted.
+    /// Of these, those on lists of which R-12's law of shares speaks.
     pub kept: u64,
     /// Those refused with 36 only because an account counts no further than 32 bits.
     pub uncounted: u64,

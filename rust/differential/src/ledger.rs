@@ -49,8 +49,8 @@ impl Ledger {
     }
 
     /// Asserts the laws of a grant: of its outcome and the banks before and after it. `rows` are those of the
-    /// table, where the unit call alone gives one. Answers whether it had to be granted although the common
-    /// part had too little left.
+    /// table, where the unit call alone gives one. Answers whether it was granted although the common part
+    /// had too little left, as the law of shares has it.
     pub fn grant(
         &mut self,
         camera: u64,
@@ -71,7 +71,7 @@ impl Ledger {
         let unused = before.accounts.get(camera as usize).map(unused);
         let is_within = rows.zip(unused).is_some_and(|(rows, unused)| rows <= unused.into());
         assert!(!is_within || number != 36, "36 within a share: {before:?} {camera}");
-        is_within && rows.is_some_and(|rows| u128::from(rows) > left(before))
+        number == 0 && is_within && u128::from(outcome.value) > left(before)
     }
 
     /// Total use equals the rows granted, and does not exceed the limit.
