@@ -19,7 +19,6 @@ use Rattle.picture.specs.Session.{unitCall, following}
 use Rattle.picture.specs.Lists.{acceptedIn, taken}
 use Rattle.bank.specs.declared.accounts.Account.{Account}
 use Rattle.bank.specs.Accounts.{unused, shares, drawn, commonPart, leftOf, held}
-use Rattle.bank.specs.Granting.{within}
 use Rattle.bank.specs.Bank.{accountOf}
 use Rattle.bank.specs.GrantFaults.{Passes, couldHave}
 use Rattle.bank.specs.BankCalls.{grant, BankCall, accountsIn, grantedSince, afterCalls, grantedIn}
@@ -60,11 +59,8 @@ module _ (limit : ℕ) (accounts : List Account) (t : Session) (camera : ℕ) (c
   pub grant-fits : n ≤ couldHave limit accounts camera → grant limit accounts t camera c ≡ unitCall t c
   grant-fits l = grant-passing (unitsOf (t .settings)) (t .due) limit accounts camera c p ∙ within-fits (couldHave limit accounts camera) (c .buffer) (unitCall t c) e l
 
-  grant-more : couldHave limit accounts camera < n → ¬ (grant limit accounts t camera c ≡ unitCall t c)
-  grant-more l g =
-      let w = grant-passing (unitsOf (t .settings)) (t .due) limit accounts camera c p ∙ within-more (couldHave limit accounts camera) (c .buffer) (unitCall t c) e l in
-      let f : Refused 36 (couldHave limit accounts camera) ≡ Accepted n = ap (λ (o : Outcome). o .answer) (sym w ∙ g) ∙ e in
-      never (cc)
+  pub grant-more : couldHave limit accounts camera < n → grant limit accounts t camera c ≡ refused 36 (couldHave limit accounts camera) (c .buffer)
+  grant-more l = grant-passing (unitsOf (t .settings)) (t .due) limit accounts camera c p ∙ within-more (couldHave limit accounts camera) (c .buffer) (unitCall t c) e l
 
   exactly : limit < 4294967296 → (grant limit accounts t camera c ≡ unitCall t c) ↔ (n ≤ unused (accountOf accounts camera) + leftOf limit accounts .rows)
   exactly l =
@@ -72,7 +68,7 @@ module _ (limit : ℕ) (accounts : List Account) (t : Session) (camera : ℕ) (c
       (λ g. go g (decLt (couldHave limit accounts camera) n), λ h. grant-fits (omega arith))
     where
       go : grant limit accounts t camera c ≡ unitCall t c → Dec (couldHave limit accounts camera < n) → n ≤ unused (accountOf accounts camera) + leftOf limit accounts .rows
-      go g (yes h) = absurd (grant-more h g)
+      go g (yes h) = let f : Refused 36 (couldHave limit accounts camera) ≡ Accepted n = ap (λ (o : Outcome). o .answer) (sym (grant-more h) ∙ g) ∙ e in never (cc)
       go g (no h) = let w = whole limit accounts camera p l in omega arith
 
 -- ---- the grant is the unit call
@@ -84,21 +80,15 @@ module _ (limit : ℕ) (accounts : List Account) (t : Session) (camera : ℕ) (c
       p : Passes limit accounts camera
       p = grant-granted (unitsOf (t .settings)) (t .due) limit accounts camera c e .0
 
-      w : grant limit accounts t camera c ≡ within (couldHave limit accounts camera) (c .buffer) (unitCall t c)
-      w = grant-passing (unitsOf (t .settings)) (t .due) limit accounts camera c p
-
-      one : {m : ℕ} → Accepted m ≡ Accepted n → m ≡ n
-      one f = cc
-
       go : (answer : Answer) → unitCall t c .answer ≡ answer → grant limit accounts t camera c ≡ unitCall t c
-      go (Refused number place) i = w ∙ within-refused (couldHave limit accounts camera) (c .buffer) (unitCall t c) i
+      go (Refused number place) i = grant-passing (unitsOf (t .settings)) (t .due) limit accounts camera c p ∙ within-refused (couldHave limit accounts camera) (c .buffer) (unitCall t c) i
       go (Accepted m) i = by (decLt (couldHave limit accounts camera) m)
         where
           by : Dec (couldHave limit accounts camera < m) → grant limit accounts t camera c ≡ unitCall t c
           by (yes l) =
-              let f : Refused 36 (couldHave limit accounts camera) ≡ Accepted n = ap (λ (o : Outcome). o .answer) (sym (w ∙ within-more (couldHave limit accounts camera) (c .buffer) (unitCall t c) i l)) ∙ e in
+              let f : Refused 36 (couldHave limit accounts camera) ≡ Accepted n = ap (λ (o : Outcome). o .answer) (sym (grant-more limit accounts t camera c i p l)) ∙ e in
               never (cc)
-          by (no l) = w ∙ within-fits (couldHave limit accounts camera) (c .buffer) (unitCall t c) i (omega arith)
+          by (no l) = grant-fits limit accounts t camera c i p (omega arith)
 
 -- those that were granted, as unit calls
 session : (t : Session) (asked : List Asked) → (calls : List Call) × (acceptedIn t calls ≡ grantedOn t asked)

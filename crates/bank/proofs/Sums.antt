@@ -1,7 +1,7 @@
 -- Sums over accounts: how a store at one place and a new period change them, and that the code finds what is left.
 use Prim.Native.Nat.{ℕ, zero, suc, _+_, _-_, _≤_, _<_}
 use mathlib.Core.Path.{_≡_, refl, sym, ap, _∙_}
-use mathlib.Core.Bool.{Bool, true, false, _||_}
+use mathlib.Core.Bool.{Bool, false, _||_, or-false, or-assoc}
 use mathlib.Core.List.{List, [], _∷_}
 use native.Mathlib.Nat.{not-suc-le-zero, le-of-suc-le-suc}
 use native.Mathlib.Omega.{arith}
@@ -60,14 +60,6 @@ held-is [] = refl
 held-is (y ∷ ys) = omega (arith, held-is ys)
 
 -- ---- what is left
-
-or-false : (a : Bool) → (a || false) ≡ a
-or-false true = refl
-or-false false = refl
-
-or-assoc : (a b c : Bool) → ((a || b) || c) ≡ (a || (b || c))
-or-assoc true b c = refl
-or-assoc false b c = refl
 
 -- two amounts exceed a limit where the first does, or the second exceeds what that leaves
 over-both : (limit a b : ℕ) → (ltb limit a || ltb (limit - a) b) ≡ ltb limit (a + b)
