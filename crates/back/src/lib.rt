@@ -1,5 +1,7 @@
 // The walk of the way back: the rows of a tree, of any kind, become its flags, in a scratch table, or it is
 // refused; number and place are then found by crate search.
+#![tactic(auto)]
+
 mod edge;
 mod inside;
 

@@ -9,14 +9,14 @@ use unit::Answer;
 
 // A camera's account: its reserved share, and the rows used since the last new period. A caller lends a list of them.
 #[repr(C)]
-#[derive(Drop)]
+#[derive(Clone, Copy)]
 pub struct Account {
     pub share: u32,
     pub used: u32,
 }
 
 // What is left of the common part; no row where the accounts hold more than there is.
-#[derive(Drop)]
+#[derive(Clone, Copy)]
 pub struct Left {
     pub rows: u64,
     pub exceeded: bool,

@@ -1,5 +1,7 @@
 // One row allowance for a bank of cameras: the grant, by a camera's own account and what is left of the common part.
 // The two functions over the lent list of accounts are those of the C interface (crates/colwythar/src/bank_calls.rt).
+#![tactic(auto)]
+
 mod accounts;
 
 ghost use Rattle.std.specs.Prelude.{◌≡◌, ◌*◌, ◌≤◌, min};
@@ -16,7 +18,7 @@ use settings::Settings;
 use unit::Answer;
 
 // What a grant returns: the camera's account afterwards, and what its unit call returns.
-#[derive(Drop)]
+#[derive(Clone, Copy)]
 pub struct Granted {
     pub account: Account,
     pub called: Called,

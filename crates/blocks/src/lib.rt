@@ -1,5 +1,7 @@
 // Where the parts of a split lie, and the row of a leaf: document 01, "Children and rows"; and copies
 // of bytes, and of numbers as their bytes.
+#![tactic(auto)]
+
 mod copies;
 mod parts;
 mod rows;

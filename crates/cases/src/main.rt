@@ -1,5 +1,7 @@
 // Runs on the proved functions the cases that document 01 gives to a test program, and P4 and P5 both ways.
 // The expected output, `stdout`, is written from the paper. P1 to P10 are theorems (crates/unit/specs/Cases.antt).
+#![tactic(auto)]
+
 ghost use Rattle.std.specs.Prelude.{◌≡◌, ◌+◌, ◌≤◌, ◌<◌, min};
 ghost use Rattle.unit.specs.Cases as Cases;
 ghost use Rattle.unit.specs.Cases.{setting_a as Cases·settingA};

@@ -1,5 +1,7 @@
 // A unit's map: 1,024 cells of 4 by 4 samples, 32 a line, filled row by row; each cell holds the row, as one number, of
 // the block that it lies in.
+#![tactic(auto)]
+
 ghost use Rattle.std.specs.Prelude.{◌≡◌, ◌+◌, ◌≤◌, ◌<◌, length, get_or, replicate};
 ghost use Rattle.std.proofs.lemmas.List.Edits.{sets};
 ghost use Rattle.nodes.specs.RowNodes.{node_in};

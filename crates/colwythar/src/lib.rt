@@ -1,5 +1,7 @@
 // The C interface: the functions of the static library, declared in include/colwythar.h. A slice is a pointer and then
 // a length; settings, answers and the due address are behind pointers.
+#![tactic(auto)]
+
 mod bank_calls;
 mod h265_calls;
 

@@ -3,7 +3,7 @@ ghost use Rattle.std.specs.Prelude.{◌≡◌};
 ghost use Rattle.compare.specs.Finer.{finer_by, finer_number};
 
 // In document 02's order.
-#[derive(Drop)]
+#[derive(Clone, Copy)]
 pub enum Finer {
     Equal,
     First,

@@ -1,5 +1,7 @@
 // R-9's comparison of two tables of a unit: equal blocks, one finer than the other, or neither; or the refusals of the
 // way back, 1 to 10, then 15, 27, 28 and 16 of the first table, then of the second.
+#![tactic(auto)]
+
 mod finer;
 mod tables;
 

@@ -1,5 +1,7 @@
 // The flags of a node: the decision that is read from them, and in `put` the flags that say a decision. A flag is read
 // only where it is present; the open splits are tested by their masks.
+#![tactic(auto)]
+
 mod put;
 
 ghost use Rattle.std.specs.Prelude.{◌≡◌, Bool, true, false, cond, ◌||◌};

@@ -1,5 +1,7 @@
 // H.265 pictures: one unit, flags become rows and rows the flags that give them, and the picture session. The trees, the
 // walks and the session's state are those of H.266; the settings are H.265's own.
+#![tactic(auto)]
+
 mod session;
 
 ghost use Rattle.unit.specs.Answers.{Meets};

@@ -10,14 +10,14 @@ use picture::State;
 use unit::Answer;
 
 // The settings and the address due. Its fields are open to its holder, so a call checks them again.
-#[derive(Drop)]
+#[derive(Clone, Copy)]
 pub struct Session {
     pub settings: Settings,
     pub due: usize,
 }
 
 // A fresh session, or the refusal of its settings, 34, 35, 7 and 8.
-#[derive(Drop)]
+#[derive(Clone, Copy)]
 pub enum Opened {
     Fresh(Session),
     Refused(u32),
@@ -36,7 +36,7 @@ impl Opened {
 }
 
 // What a unit call returns: the session that it yields, and its answer.
-#[derive(Drop)]
+#[derive(Clone, Copy)]
 pub struct Called {
     pub session: Session,
     pub answer: Answer,

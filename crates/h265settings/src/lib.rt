@@ -1,5 +1,7 @@
 // The settings of an H.265 picture: from words, their check, the number of its units, and the settings of H.266 that have the
 // same trees.
+#![tactic(auto)]
+
 mod check;
 mod units;
 mod words;
@@ -9,7 +11,7 @@ pub use units::{as_luma, unit_count};
 pub use words::from_words;
 
 // The four numbers, in the order in which they are checked. `smallest` is the smallest block side.
-#[derive(Drop)]
+#[derive(Clone, Copy)]
 pub struct Settings {
     pub ctu: u32,
     pub smallest: u32,

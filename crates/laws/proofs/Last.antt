@@ -1,6 +1,6 @@
 -- The last element of a list has a property.
 use mathlib.Core.List.{List, [], ◌∷◌, ◌++◌}
-use Rattle.laws.specs.Every.{Every, every_more}
+use Rattle.laws.specs.Every.{Every, every_none, every_more}
 
 pub data Last {A : Type 0} (P : A → Type 0) : List A → Type 0 where
   last : {a : A} → P a → Last P (a ∷ [])
@@ -17,5 +17,6 @@ module _ {A : Type 0} {P : A → Type 0} where
 
   -- what every element has, the last one has
   pub last_both : {Q : A → Type 0} {all : List A} → Every P all → Last Q all → Last (λ a. P a × Q a) all
+  last_both {Q = Q} every_none l = elim l [ ]
   last_both (every_more p ps) (last q) = last (p, q)
   last_both (every_more p ps) (later l) = later (last_both ps l)

@@ -138,6 +138,7 @@ module _ {k : Kind} (v : Proper k) where
 
     last_row : {ns : List Node} (t : Trees k ns) → Last Closing ns → Last (EndsAt goal) (rows_of t)
     unfolding rows_of
+    last_row none l = elim l [ ]
     last_row (skip {n = n} out rest) (last c) = clash (fits_there k.limits n c.0) out
     last_row (skip out rest) (later l) = last_row rest l
     last_row (node {n = n} d here ok kids none) (last c) = rw append-nil (last_node n d ok c kids (last_row kids))

@@ -10,13 +10,14 @@ use Rattle.tree.specs.Kind.{Kind}
 use Rattle.tree.specs.Splits.{inside, rights_of}
 use Rattle.tree.specs.Flags.{some_open}
 use Rattle.tree.specs.Children.{corner_inside}
-use Rattle.laws.specs.Every.{Every, every_more}
+use Rattle.laws.specs.Every.{Every, every_none, every_more}
 use Rattle.laws.specs.Proper.{Proper, RootSquare}
 use Rattle.laws.specs.Reached.{Reached, begins, goes_on}
 use Rattle.laws.specs.Good.{Good}
 use Rattle.laws.proofs.Edge.{good_root, good_kids, edge_has_open_split}
 
 pub every_in : {A : Type 0} {P : A → Type 0} {a : A} {all : List A} → Every P all → Memᴰ a all → P a
+every_in {A = A} {P = P} {a = a} every_none m = elim m [ ]
 every_in {A} {P} {a} (every_more {a = b} {rest = rest} p ps) m = go (every_in ps) (Memᴰ.cases_cons m)
   where
     go : (Memᴰ a rest → P a) → (a ≡ b) ⊎ Memᴰ a rest → P a

@@ -1,4 +1,6 @@
 // The line store: the test of its bytes, the cells around a unit that it tells, and the store after a unit.
+#![tactic(auto)]
+
 ghost use mathlib.Core.Path.{◌≡◌};
 ghost use Prim.Native.Nat.{◌+◌, ◌*◌, ◌/◌, ◌%◌, ◌≤◌, ◌<◌};
 ghost use mathlib.Core.Bool.{true};

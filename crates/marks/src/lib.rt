@@ -1,5 +1,7 @@
 // The rows of a table as the way back looks at them: the next row as one number, the marks that one pass over the rows
 // makes, and the decision at a node that they show, without a scan.
+#![tactic(auto)]
+
 mod ahead;
 mod compare;
 mod pass;

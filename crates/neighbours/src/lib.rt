@@ -1,4 +1,6 @@
 // The neighbours of a node, and the context numbers of its flags: H.266 clause 9.3.4.2.
+#![tactic(auto)]
+
 mod map;
 mod node;
 mod put;

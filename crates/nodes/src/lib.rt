@@ -1,6 +1,8 @@
 // A node as the walks carry it, two numbers: its row as one number, and the splits that are left to it.
 // The reader and the way back share these functions; every number may have any value, but for the masks that
 // `open_below` is given.
+#![tactic(auto)]
+
 mod below;
 mod children;
 mod edge;

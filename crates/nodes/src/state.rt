@@ -9,7 +9,7 @@ const COUNT: u64 = 4294967296;
 const REFUSED: u64 = 9223372036854775808;
 
 // A child's answer: it was walked and the walk goes on from there, or it was refused.
-#[derive(Drop)]
+#[derive(Clone, Copy)]
 pub enum Child {
     Walked(u64),
     Refused(u64),

@@ -1,5 +1,7 @@
 // R-1's partition page of a unit: its rows as text, one row a line, or the way back's refusals 1 to 10, 15, 27, 28
 // and 16, then 23.
+#![tactic(auto)]
+
 mod columns;
 mod lines;
 mod text;

@@ -1,4 +1,6 @@
 // The walk of the reading: the flags of a tree, of any kind, become its rows, in a scratch table, or refusal 11 or 12.
+#![tactic(auto)]
+
 mod edge;
 mod inside;
 mod scratch;

@@ -1,4 +1,6 @@
 // The picture session: the units of a picture, read in the order of their addresses.
+#![tactic(auto)]
+
 mod state;
 
 ghost use Rattle.std.specs.Prelude.{◌≡◌, ℕ, ◌<◌};
@@ -12,14 +14,14 @@ use unit::Answer;
 
 // Document 01's session: the settings and the address due. Its fields are open to its holder, so a call checks them
 // again.
-#[derive(Drop)]
+#[derive(Clone, Copy)]
 pub struct Session {
     pub settings: Settings,
     pub due: usize,
 }
 
 // A fresh session, or the refusal of its settings, 1 to 9.
-#[derive(Drop)]
+#[derive(Clone, Copy)]
 pub enum Opened {
     Fresh(Session),
     Refused(u32),
@@ -38,7 +40,7 @@ impl Opened {
 }
 
 // What a unit call returns: the session that it yields, and its answer.
-#[derive(Drop)]
+#[derive(Clone, Copy)]
 pub struct Called {
     pub session: Session,
     pub answer: Answer,

@@ -7,7 +7,7 @@ use settings::Count;
 use unit::Answer;
 
 // Whether a unit call reads its unit: it is due, or the state's refusal, a number and a place.
-#[derive(Drop)]
+#[derive(Clone, Copy)]
 pub enum State {
     Due,
     Refused(u32, usize),

@@ -1,5 +1,7 @@
 // Runs a whole picture on the proved session, unit by unit, with refused calls in between. The expected output, `stdout`,
 // is written from the paper.
+#![tactic(auto)]
+
 ghost use Rattle.std.specs.Prelude.{◌≡◌, ◌<◌};
 ghost use Rattle.unit.specs.Cases as Cases;
 

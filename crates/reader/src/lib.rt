@@ -1,4 +1,6 @@
 // The reader of a single unit: flags become rows, or the refusals of its settings and 10 to 14.
+#![tactic(auto)]
+
 mod deliver;
 
 ghost use Rattle.std.specs.Prelude.{◌≡◌, false};

@@ -1,5 +1,7 @@
 // Where a table stops being a tree: how many leading rows some tree's table begins with, of any kind. Only rows that the
 // way back refuses are searched, so this may be slower: it tries every decision that the next row leaves.
+#![tactic(auto)]
+
 mod node;
 mod parts;
 

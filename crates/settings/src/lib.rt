@@ -1,4 +1,6 @@
 // The settings of a picture's coding trees: from words, their check, and the units that they cut the picture into.
+#![tactic(auto)]
+
 mod check;
 mod units;
 mod words;
@@ -8,7 +10,7 @@ pub use units::{count_in, locate, unit_at, unit_count};
 pub use words::from_words;
 
 // Document 01's eight numbers, in the order in which they are checked. `maxmtt` is M, the greatest multi-type depth.
-#[derive(Drop)]
+#[derive(Clone, Copy)]
 pub struct Settings {
     pub ctu: u32,
     pub mincb: u32,
@@ -21,7 +23,7 @@ pub struct Settings {
 }
 
 // A unit's square: its corner and its side.
-#[derive(Drop)]
+#[derive(Clone, Copy)]
 pub struct Square {
     pub x: u32,
     pub y: u32,
@@ -29,14 +31,14 @@ pub struct Square {
 }
 
 // The number of units of a picture, or the refusal of its settings: in H.266 1 to 9.
-#[derive(Drop)]
+#[derive(Clone, Copy)]
 pub enum Count {
     Units(usize),
     Refused(u32),
 }
 
 // A unit's square, or the refusal of its settings, or 10, that of its address.
-#[derive(Drop)]
+#[derive(Clone, Copy)]
 pub enum Located {
     At(Square),
     Refused(u32),

@@ -1,4 +1,6 @@
 // Sides of blocks: powers of two, and the exponents that rows store.
+#![tactic(auto)]
+
 ghost use Rattle.std.specs.Prelude.{◌≡◌, min};
 ghost use Rattle.sides.specs.Side.{exponent as Side·exponent, side_from};
 

@@ -1,5 +1,7 @@
 // The open splits of a node as one number: H.266 clauses 6.4.1 to 6.4.3. The binary and the ternary rule stand once,
 // the direction a parameter. Every number may have any value: sums are taken in 64 bits.
+#![tactic(auto)]
+
 ghost use Rattle.std.specs.Prelude.{◌≡◌, ◌+◌, ◌≤◌, min, ltb};
 ghost use Rattle.tree.specs.Kind.{luma};
 ghost use Rattle.tree.specs.Splits as Splits;

@@ -1,9 +1,10 @@
 // The coding tree of H.266: its types. The rules are in specs/, and the functions of a node are in the crates above:
 // splits, flags, blocks.
 // This layer knows the limits of one tree and no unit: luma is one kind of tree.
+#![tactic(auto)]
 
 // The limits of one tree: MinCb, MinQt, M (`maxmtt`), MaxBt, MaxTt, and the picture's width and height.
-#[derive(Drop)]
+#[derive(Clone, Copy)]
 pub struct Limits {
     pub mincb: u32,
     pub minqt: u32,
@@ -15,14 +16,14 @@ pub struct Limits {
 }
 
 // The direction of a cut: a horizontal one divides the height, a vertical one the width.
-#[derive(Drop)]
+#[derive(Clone, Copy)]
 pub enum Direction {
     Horizontal,
     Vertical,
 }
 
 // "A node ends as a leaf, a quad, a binary or a ternary split with its direction."
-#[derive(Drop)]
+#[derive(Clone, Copy)]
 pub enum Decision {
     Leaf,
     Quad,
@@ -31,7 +32,7 @@ pub enum Decision {
 }
 
 // A node: corner, sides, QT depth, MTT depth (D), offset (F), part number, and its parent's split (Leaf at the root).
-#[derive(Drop)]
+#[derive(Clone, Copy)]
 pub struct Node {
     pub x: u32,
     pub y: u32,
@@ -45,21 +46,21 @@ pub struct Node {
 }
 
 // What reading one flag finds: its value and the next place, or a refusal's number and place.
-#[derive(Drop)]
+#[derive(Clone, Copy)]
 pub enum Flag {
     Value(bool, usize),
     Bad(u32, usize),
 }
 
 // What a node's flags decide and the next place, or a refusal's number and place.
-#[derive(Drop)]
+#[derive(Clone, Copy)]
 pub enum Choice {
     Chosen(Decision, usize),
     Refused(u32, usize),
 }
 
 // A part of a split in quarters of its parent: where it starts, how long it is, and its number.
-#[derive(Drop)]
+#[derive(Clone, Copy)]
 pub struct Share {
     pub left: u32,
     pub top: u32,
@@ -69,7 +70,7 @@ pub struct Share {
 }
 
 // A part's place in its parent, in samples: where it starts from the parent's corner, and its sides.
-#[derive(Drop)]
+#[derive(Clone, Copy)]
 pub struct Part {
     pub left: u32,
     pub top: u32,

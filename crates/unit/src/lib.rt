@@ -1,4 +1,6 @@
 // One coding tree unit: the answers of the calls on it, and its luma tree.
+#![tactic(auto)]
+
 ghost use Rattle.std.specs.Prelude.{◌≡◌};
 ghost use Rattle.unit.specs.Answers.{number_of, value_of};
 ghost use Rattle.unit.specs.Luma.{limits_of};
@@ -9,7 +11,7 @@ use tree::{Decision, Limits, Node};
 
 // The answer of a call: how many rows, flags or bytes of a page there are, or which of two tables is finer, or a refusal's
 // number and place.
-#[derive(Drop)]
+#[derive(Clone, Copy)]
 pub enum Answer {
     Accepted(usize),
     Refused(u32, usize),

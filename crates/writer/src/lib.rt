@@ -1,5 +1,7 @@
 // The way back of a single unit: rows become the flags that give them, or the refusals of its settings, 10, 15, 27, 28, 16
 // and 17. It is a test, which can be called alone, and the delivery of the flags.
+#![tactic(auto)]
+
 mod deliver;
 mod test;
 

@@ -3,23 +3,23 @@ use borrow.Author.Rules.{rules}
 use Rattle.flags.proofs.after_binary.Statement.{statement}
 use Rattle.flags.proofs.after_binary.Tie as tie
 
-enum-known-f : tie.Need-enum-known-f
-enum-known-f c = search rules
+enum_known-f : tie.Need-enum_known-f
+enum_known-f c = search rules
 
-enum-known-f-2 : tie.Need-enum-known-f-2
-enum-known-f-2 c = search rules
+enum_known-f-in-Value-1 : tie.Need-enum_known-f-in-Value-1
+enum_known-f-in-Value-1 c = search rules
 
-returns : tie.Need-returns
+returns-in-Bad : tie.Need-returns-in-Bad
 unfolding after_binary
-returns c = cc
+returns-in-Bad c = cc
 
-returns-2 : tie.Need-returns-2
+returns-then-binary : tie.Need-returns-then-binary
 unfolding after_binary
-returns-2 c = cc
+returns-then-binary c = cc
 
-returns-3 : tie.Need-returns-3
+returns-else-binary : tie.Need-returns-else-binary
 unfolding after_binary
-returns-3 c = cc
+returns-else-binary c = cc
 
-pub after-binary-spec : {M : Type 1} → statement M
-after-binary-spec = tie.close (tie.spec enum-known-f enum-known-f-2 returns returns-2 returns-3)
+pub after_binary_spec : {M : Type 1} → statement M
+after_binary_spec = tie.close (tie.spec enum_known-f enum_known-f-in-Value-1 returns-in-Bad returns-then-binary returns-else-binary)

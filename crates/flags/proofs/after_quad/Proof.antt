@@ -4,38 +4,38 @@ use borrow.Author.Rules.{rules}
 use Rattle.flags.proofs.after_quad.Statement.{statement}
 use Rattle.flags.proofs.after_quad.Tie as tie
 
-enum-known-f : tie.Need-enum-known-f
-enum-known-f c = search rules
+enum_known-f : tie.Need-enum_known-f
+enum_known-f c = search rules
 
-enum-known-f-2 : tie.Need-enum-known-f-2
-enum-known-f-2 c = search rules
+enum_known-f-in-Value-1 : tie.Need-enum_known-f-in-Value-1
+enum_known-f-in-Value-1 c = search rules
 
-vertical-flag-requires : tie.Need-vertical-flag-requires
-vertical-flag-requires c κs = search rules
+vertical_flag-requires : tie.Need-vertical_flag-requires
+vertical_flag-requires c κs = search rules
 
-after-vertical-requires : tie.Need-after-vertical-requires
-after-vertical-requires c κs = search rules
+after_vertical-requires : tie.Need-after_vertical-requires
+after_vertical-requires c κs = search rules
 
-returns : tie.Need-returns
+returns-in-Bad : tie.Need-returns-in-Bad
 unfolding after_quad
-returns c = λ out. cc
+returns-in-Bad c = λ out. cc
 
-returns-2 : tie.Need-returns-2
+returns-then-quad : tie.Need-returns-then-quad
 unfolding after_quad
-returns-2 c = λ out. cc
+returns-then-quad c = λ out. cc
 
-returns-3 : tie.Need-returns-3
+returns-else-quad : tie.Need-returns-else-quad
 unfolding after_quad
-returns-3 c = λ out. rw (c.before.before.before.before.f2.given.1, c.before.before.if1.false) (c.after_vertical_lem.ensures out ∙ ap (after_vertical _ _) (c.before.vertical-flag.ensures out))
+returns-else-quad c = λ out. rw (c.in-Value.is, c.if-quad.false) (c.after_vertical.ensures out ∙ ap (after_vertical _ _) (c.vertical_flag.ensures out))
 
-pub after-quad-spec : {M : Type 1} → statement M
-after-quad-spec =
+pub after_quad_spec : {M : Type 1} → statement M
+after_quad_spec =
     tie.close
     (tie.spec
-    enum-known-f
-    enum-known-f-2
-    vertical-flag-requires
-    after-vertical-requires
-    returns
-    returns-2
-    returns-3)
+    enum_known-f
+    enum_known-f-in-Value-1
+    vertical_flag-requires
+    after_vertical-requires
+    returns-in-Bad
+    returns-then-quad
+    returns-else-quad)

@@ -4,38 +4,38 @@ use borrow.Author.Rules.{rules}
 use Rattle.flags.proofs.after_split.Statement.{statement}
 use Rattle.flags.proofs.after_split.Tie as tie
 
-enum-known-f : tie.Need-enum-known-f
-enum-known-f c = search rules
+enum_known-f : tie.Need-enum_known-f
+enum_known-f c = search rules
 
-enum-known-f-2 : tie.Need-enum-known-f-2
-enum-known-f-2 c = search rules
+enum_known-f-in-Value-1 : tie.Need-enum_known-f-in-Value-1
+enum_known-f-in-Value-1 c = search rules
 
-quad-flag-requires : tie.Need-quad-flag-requires
-quad-flag-requires c κs = search rules
+quad_flag-requires : tie.Need-quad_flag-requires
+quad_flag-requires c κs = search rules
 
-after-quad-requires : tie.Need-after-quad-requires
-after-quad-requires c κs = search rules
+after_quad-requires : tie.Need-after_quad-requires
+after_quad-requires c κs = search rules
 
-returns : tie.Need-returns
+returns-in-Bad : tie.Need-returns-in-Bad
 unfolding after_split
-returns c = λ out. cc
+returns-in-Bad c = λ out. cc
 
-returns-2 : tie.Need-returns-2
+returns-then-split : tie.Need-returns-then-split
 unfolding after_split
-returns-2 c = λ out. rw (c.before.before.before.before.f2.given.1, c.before.before.if1.true) (c.after-quad.ensures out ∙ ap (after_quad _ _) (c.before.quad-flag.ensures out))
+returns-then-split c = λ out. rw (c.in-Value.is, c.if-split.true) (c.after_quad.ensures out ∙ ap (after_quad _ _) (c.quad_flag.ensures out))
 
-returns-3 : tie.Need-returns-3
+returns-else-split : tie.Need-returns-else-split
 unfolding after_split
-returns-3 c = λ out. cc
+returns-else-split c = λ out. cc
 
-pub after-split-spec : {M : Type 1} → statement M
-after-split-spec =
+pub after_split_spec : {M : Type 1} → statement M
+after_split_spec =
     tie.close
     (tie.spec
-    enum-known-f
-    enum-known-f-2
-    quad-flag-requires
-    after-quad-requires
-    returns
-    returns-2
-    returns-3)
+    enum_known-f
+    enum_known-f-in-Value-1
+    quad_flag-requires
+    after_quad-requires
+    returns-in-Bad
+    returns-then-split
+    returns-else-split)

@@ -5,11 +5,11 @@ use borrow.Author.Rules.{rules}
 use Rattle.flags.proofs.after_vertical.Statement.{statement}
 use Rattle.flags.proofs.after_vertical.Tie as tie
 
-enum-known-f : tie.Need-enum-known-f
-enum-known-f c = search rules
+enum_known-f : tie.Need-enum_known-f
+enum_known-f c = search rules
 
-enum-known-f-2 : tie.Need-enum-known-f-2
-enum-known-f-2 c = search rules
+enum_known-f-in-Value-1 : tie.Need-enum_known-f-in-Value-1
+enum_known-f-in-Value-1 c = search rules
 
 direction-requires : tie.Need-direction-requires
 direction-requires c κs = search rules
@@ -17,17 +17,15 @@ direction-requires c κs = search rules
 cut-requires : tie.Need-cut-requires
 cut-requires c κs = search rules
 
-returns : tie.Need-returns
+returns-in-Bad : tie.Need-returns-in-Bad
 unfolding after_vertical
-returns c = λ out. cc
+returns-in-Bad c = λ out. cc
 
-returns-2 : tie.Need-returns-2
-returns-2 c = λ out.
-    let d = c.before in
-    let f = d.before.before.f2 in
-    rw f.given.1 (c.cut.ensures out ∙ rw d.direction.ensures (vertical_cut _ _ _ _))
+returns-in-Value : tie.Need-returns-in-Value
+returns-in-Value c = λ out.
+    rw c.in-Value.is (c.cut.ensures out ∙ rw c.direction.ensures (vertical_cut _ _ _ _))
 
-pub after-vertical-spec : {M : Type 1} → statement M
-after-vertical-spec =
+pub after_vertical_spec : {M : Type 1} → statement M
+after_vertical_spec =
     tie.close
-    (tie.spec enum-known-f enum-known-f-2 direction-requires cut-requires returns returns-2)
+    (tie.spec enum_known-f enum_known-f-in-Value-1 direction-requires cut-requires returns-in-Bad returns-in-Value)

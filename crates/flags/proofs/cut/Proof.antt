@@ -4,14 +4,14 @@ use borrow.Author.Rules.{rules}
 use Rattle.flags.proofs.cut.Statement.{statement}
 use Rattle.flags.proofs.cut.Tie as tie
 
-binary-flag-requires : tie.Need-binary-flag-requires
-binary-flag-requires c κs = search rules
+binary_flag-requires : tie.Need-binary_flag-requires
+binary_flag-requires c κs = search rules
 
-after-binary-requires : tie.Need-after-binary-requires
-after-binary-requires c κs = search rules
+after_binary-requires : tie.Need-after_binary-requires
+after_binary-requires c κs = search rules
 
 returns : tie.Need-returns
-returns c = λ out. c.after_binary_lem.ensures ∙ ap (after_binary _) (c.before.binary-flag.ensures out)
+returns c = λ out. c.after_binary.ensures ∙ ap (after_binary _) (c.binary_flag.ensures out)
 
 pub cut_spec : {M : Type 1} → statement M
-cut_spec = tie.close (tie.spec binary-flag-requires after-binary-requires returns)
+cut_spec = tie.close (tie.spec binary_flag-requires after_binary-requires returns)

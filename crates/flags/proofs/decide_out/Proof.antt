@@ -5,45 +5,41 @@ use borrow.Author.Rules.{rules}
 use Rattle.flags.proofs.decide_out.Statement.{statement}
 use Rattle.flags.proofs.decide_out.Tie as tie
 
-quad-flag-requires : tie.Need-quad-flag-requires
-quad-flag-requires c κs = search rules
+quad_flag-requires : tie.Need-quad_flag-requires
+quad_flag-requires c κs = search rules
 
-enum-known-number : tie.Need-enum-known-number
-enum-known-number c = search rules
+enum_known-number : tie.Need-enum_known-number
+enum_known-number c = search rules
 
-enum-known-quad : tie.Need-enum-known-quad
-enum-known-quad c = search rules
+enum_known-quad : tie.Need-enum_known-quad
+enum_known-quad c = search rules
 
 direction-requires : tie.Need-direction-requires
 direction-requires c κs = search rules
 
-returns : tie.Need-returns
+returns-in-Bad : tie.Need-returns-in-Bad
 unfolding after_quad_out
-returns c =
-    let n = c.before in
-    ap (after_quad_out _) (sym n.number.given.1 ∙ n.before.before.quad-flag.ensures true)
+returns-in-Bad c =
+    ap (after_quad_out _) (sym c.in-Bad.is ∙ c.quad_flag.ensures true)
 
-returns-2 : tie.Need-returns-2
+returns-then-quad : tie.Need-returns-then-quad
 unfolding after_quad_out
-returns-2 c =
-    let q = c.before.before in
-    rw (sym (q.before.before.quad-flag.ensures true) ∙ q.quad.given.1, c.if1.true)
+returns-then-quad c =
+    rw (sym (c.quad_flag.ensures true) ∙ c.in-Value.is, c.if-quad.true)
 
-returns-3 : tie.Need-returns-3
+returns-else-quad : tie.Need-returns-else-quad
 unfolding after_quad_out
-returns-3 c =
-    let i = c.before in
-    let q = i.before.before in
-    rw (c.direction.ensures, sym (q.before.before.quad-flag.ensures true) ∙ q.quad.given.1, i.if1.false)
+returns-else-quad c =
+    rw (c.direction.ensures, sym (c.quad_flag.ensures true) ∙ c.in-Value.is, c.if-quad.false)
 
-pub decide-out-spec : {M : Type 1} → statement M
-decide-out-spec =
+pub decide_out_spec : {M : Type 1} → statement M
+decide_out_spec =
     tie.close
     (tie.spec
-    quad-flag-requires
-    enum-known-number
-    enum-known-quad
+    quad_flag-requires
+    enum_known-number
+    enum_known-quad
     direction-requires
-    returns
-    returns-2
-    returns-3)
+    returns-in-Bad
+    returns-then-quad
+    returns-else-quad)

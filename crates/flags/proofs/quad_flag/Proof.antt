@@ -8,12 +8,12 @@ horizontal-requires c κs = search rules
 vertical-requires : tie.Need-vertical-requires
 vertical-requires c κs = search rules
 
-read-flag-requires : tie.Need-read-flag-requires
-read-flag-requires c κs = search rules
+read_flag-requires : tie.Need-read_flag-requires
+read_flag-requires c κs = search rules
 
 returns : tie.Need-returns
 returns c = λ out. cc
 
-pub quad-flag-spec : {M : Type 1} → statement M
-quad-flag-spec =
-    tie.close (tie.spec horizontal-requires vertical-requires read-flag-requires returns)
+pub quad_flag_spec : {M : Type 1} → statement M
+quad_flag_spec =
+    tie.close (tie.spec horizontal-requires vertical-requires read_flag-requires returns)

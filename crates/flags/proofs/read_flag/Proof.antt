@@ -4,28 +4,28 @@ use borrow.Author.Rules.{rules}
 use Rattle.flags.proofs.read_flag.Statement.{statement}
 use Rattle.flags.proofs.read_flag.Tie as tie
 
-shared-slice-read-b : tie.Need-shared-slice-read-b
-shared-slice-read-b c = search rules
+bounds-flags-at : tie.Need-bounds-flags-at
+bounds-flags-at c = search rules
 
-add-t16 : tie.Need-overflow-add-t16
-add-t16 c = search rules
+overflow_add-result : tie.Need-overflow_add-result
+overflow_add-result c = search rules
 
-returns : tie.Need-returns
+returns-then-b-le1 : tie.Need-returns-then-b-le1
 unfolding flag_at
-returns c = simp (c.before.before.before.if1.true, lt-ltb _ _ c.before.before.if2.true, le-leb _ _ c.if3.true)
+returns-then-b-le1 c = simp (c.if-there.true, lt-ltb _ _ c.if-at-flags.true, le-leb _ _ c.if-b-le1.true)
 
-returns-2 : tie.Need-returns-2
+returns-else-b-le1 : tie.Need-returns-else-b-le1
 unfolding flag_at
-returns-2 c = simp (c.before.before.before.if1.true, lt-ltb _ _ c.before.before.if2.true, lt-leb _ _ c.if3.false)
+returns-else-b-le1 c = simp (c.if-there.true, lt-ltb _ _ c.if-at-flags.true, lt-leb _ _ c.if-b-le1.false)
 
-returns-3 : tie.Need-returns-3
+returns-else-at-flags : tie.Need-returns-else-at-flags
 unfolding flag_at
-returns-3 c = simp (c.before.if1.true, le-ltb _ _ c.if2.false)
+returns-else-at-flags c = simp (c.if-there.true, le-ltb _ _ c.if-at-flags.false)
 
-returns-4 : tie.Need-returns-4
+returns-else-there : tie.Need-returns-else-there
 unfolding flag_at
-returns-4 c = simp c.if1.false
+returns-else-there c = simp c.if-there.false
 
-pub read-flag-spec : {M : Type 1} → statement M
-read-flag-spec =
-    tie.close (tie.spec shared-slice-read-b add-t16 returns returns-2 returns-3 returns-4)
+pub read_flag_spec : {M : Type 1} → statement M
+read_flag_spec =
+    tie.close (tie.spec bounds-flags-at overflow_add-result returns-then-b-le1 returns-else-b-le1 returns-else-at-flags returns-else-there)

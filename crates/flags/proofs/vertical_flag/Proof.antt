@@ -2,18 +2,18 @@ use borrow.Author.Rules.{rules}
 use Rattle.flags.proofs.vertical_flag.Statement.{statement}
 use Rattle.flags.proofs.vertical_flag.Tie as tie
 
-horizontal-requires : tie.Need-horizontal-requires
-horizontal-requires c κs = search rules
+horizontal-flat-requires : tie.Need-horizontal-flat-requires
+horizontal-flat-requires c κs = search rules
 
 vertical-requires : tie.Need-vertical-requires
 vertical-requires c κs = search rules
 
-read-flag-requires : tie.Need-read-flag-requires
-read-flag-requires c κs = search rules
+read_flag-requires : tie.Need-read_flag-requires
+read_flag-requires c κs = search rules
 
 returns : tie.Need-returns
 returns c = λ out. cc
 
-pub vertical-flag-spec : {M : Type 1} → statement M
-vertical-flag-spec =
-    tie.close (tie.spec horizontal-requires vertical-requires read-flag-requires returns)
+pub vertical_flag_spec : {M : Type 1} → statement M
+vertical_flag_spec =
+    tie.close (tie.spec horizontal-flat-requires vertical-requires read_flag-requires returns)

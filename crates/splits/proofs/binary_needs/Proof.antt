@@ -5,11 +5,11 @@ use Rattle.splits.proofs.binary_needs.Tie as tie
 pick-requires : tie.Need-pick-requires
 pick-requires c κs = search rules
 
-below-depth-bound-requires : tie.Need-below-depth-bound-requires
-below-depth-bound-requires c κs = search rules
+below_depth_bound-requires : tie.Need-below_depth_bound-requires
+below_depth_bound-requires c κs = search rules
 
 returns : tie.Need-returns
 returns c = cc
 
-pub binary-needs-spec : {M : Type 1} → statement M
-binary-needs-spec = tie.close (tie.spec pick-requires below-depth-bound-requires returns)
+pub binary_needs_spec : {M : Type 1} → statement M
+binary_needs_spec = tie.close (tie.spec pick-requires below_depth_bound-requires returns)

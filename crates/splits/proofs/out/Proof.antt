@@ -2,14 +2,14 @@ use borrow.Author.Rules.{rules}
 use Rattle.splits.proofs.out.Statement.{statement}
 use Rattle.splits.proofs.out.Tie as tie
 
-right-out-requires : tie.Need-right-out-requires
-right-out-requires c κs = search rules
+right_out-requires : tie.Need-right_out-requires
+right_out-requires c κs = search rules
 
-bottom-out-requires : tie.Need-bottom-out-requires
-bottom-out-requires c κs = search rules
+bottom_out-requires : tie.Need-bottom_out-requires
+bottom_out-requires c κs = search rules
 
 returns : tie.Need-returns
 returns c = cc
 
-pub out-spec : {M : Type 1} → statement M
-out-spec = tie.close (tie.spec right-out-requires bottom-out-requires returns)
+pub out_spec : {M : Type 1} → statement M
+out_spec = tie.close (tie.spec right_out-requires bottom_out-requires returns)

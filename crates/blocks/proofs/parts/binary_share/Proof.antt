@@ -8,42 +8,42 @@ use borrow.Author.Rules.{rules}
 use Rattle.blocks.proofs.parts.binary_share.Statement.{statement}
 use Rattle.blocks.proofs.parts.binary_share.Tie as tie
 
-share-of-requires : tie.Need-share-of-requires
-share-of-requires c κs = search rules
+share_of-first-requires : tie.Need-share_of-first-requires
+share_of-first-requires c κs = search rules
 
 slab-requires : tie.Need-slab-requires
 slab-requires c κs = search rules
 
-share-of-requires-2 : tie.Need-share-of-requires-2
-share-of-requires-2 c κs = search rules
+share_of-requires : tie.Need-share_of-requires
+share_of-requires c κs = search rules
 
-slab-requires-2 : tie.Need-slab-requires-2
-slab-requires-2 c κs = search rules
+slab-requires-in-1 : tie.Need-slab-requires-in-1
+slab-requires-in-1 c κs = search rules
 
-no-share-requires : tie.Need-no-share-requires
-no-share-requires c κs = search rules
+no_share-requires : tie.Need-no_share-requires
+no_share-requires c κs = search rules
 
-returns : tie.Need-returns
+returns-in-0 : tie.Need-returns-in-0
 unfolding share_at shares share_table
-returns c = rw (c.slab.ensures, c.before.before.share-of.ensures, either_way, c.before.match.keys1)
+returns-in-0 c = rw (c.slab.ensures, c.share_of-first.ensures, either_way, c.in-0.is)
 
-returns-2 : tie.Need-returns-2
+returns-in-1 : tie.Need-returns-in-1
 unfolding share_at shares share_table
-returns-2 c = rw (c.slab2.ensures, c.before.share-of2.ensures, c.before.before.before.share-of.ensures, either_way, c.before.before.match.keys2)
+returns-in-1 c = rw (c.slab-in-1.ensures, c.share_of.ensures, c.share_of-first.ensures, either_way, c.in-1.is)
 
-returns-3 : tie.Need-returns-3
+returns-in_default : tie.Need-returns-in_default
 unfolding share_at shares share_table
-returns-3 c = let a = c.before.before.before.args in let r = c.before.match.rest in c.no-share.ensures ∙ no_part (Binary a.d) a.i (omega (arith, r.1, r.0.1))
+returns-in_default c = let a = c.args in c.no_share.ensures ∙ no_part (Binary a.d) a.i (omega (arith, c.in_default.in_default-own.rest.1, c.in_default.in_default-own.rest.0.1))
 
-pub binary-share-spec : {M : Type 1} → statement M
-binary-share-spec =
+pub binary_share_spec : {M : Type 1} → statement M
+binary_share_spec =
     tie.close
     (tie.spec
-    share-of-requires
+    share_of-first-requires
     slab-requires
-    share-of-requires-2
-    slab-requires-2
-    no-share-requires
-    returns
-    returns-2
-    returns-3)
+    share_of-requires
+    slab-requires-in-1
+    no_share-requires
+    returns-in-0
+    returns-in-1
+    returns-in_default)

@@ -8,60 +8,60 @@ use borrow.Author.Rules.{rules}
 use Rattle.blocks.proofs.parts.quad_share.Statement.{statement}
 use Rattle.blocks.proofs.parts.quad_share.Tie as tie
 
-share-requires : tie.Need-share-requires
-share-requires c κs = search rules
+share-first-requires : tie.Need-share-first-requires
+share-first-requires c κs = search rules
 
-share-requires-2 : tie.Need-share-requires-2
-share-requires-2 c κs = search rules
+share-second-requires : tie.Need-share-second-requires
+share-second-requires c κs = search rules
 
-share-from-requires : tie.Need-share-from-requires
-share-from-requires c κs = search rules
+share_from-requires : tie.Need-share_from-requires
+share_from-requires c κs = search rules
 
-share-from-requires-2 : tie.Need-share-from-requires-2
-share-from-requires-2 c κs = search rules
+share_from-requires-in-1 : tie.Need-share_from-requires-in-1
+share_from-requires-in-1 c κs = search rules
 
-share-from-requires-3 : tie.Need-share-from-requires-3
-share-from-requires-3 c κs = search rules
+share_from-requires-in-2 : tie.Need-share_from-requires-in-2
+share_from-requires-in-2 c κs = search rules
 
-share-from-requires-4 : tie.Need-share-from-requires-4
-share-from-requires-4 c κs = search rules
+share_from-requires-in-3 : tie.Need-share_from-requires-in-3
+share_from-requires-in-3 c κs = search rules
 
-no-share-requires : tie.Need-no-share-requires
-no-share-requires c κs = search rules
+no_share-requires : tie.Need-no_share-requires
+no_share-requires c κs = search rules
 
-returns : tie.Need-returns
+returns-in-0 : tie.Need-returns-in-0
 unfolding share_at shares share_table
-returns c = rw (c.share_from.ensures, c.before.before.before.share.ensures, c.before.match.keys1)
+returns-in-0 c = rw (c.share_from.ensures, c.share-first.ensures, c.in-0.is)
 
-returns-2 : tie.Need-returns-2
+returns-in-1 : tie.Need-returns-in-1
 unfolding share_at shares share_table
-returns-2 c = rw (c.share-from2.ensures, c.before.before.before.share.ensures, c.before.before.share2.ensures, c.before.match.keys2)
+returns-in-1 c = rw (c.share_from-in-1.ensures, c.share-first.ensures, c.share-second.ensures, c.in-1.is)
 
-returns-3 : tie.Need-returns-3
+returns-in-2 : tie.Need-returns-in-2
 unfolding share_at shares share_table
-returns-3 c = rw (c.share-from3.ensures, c.before.before.before.share.ensures, c.before.before.share2.ensures, c.before.match.keys3)
+returns-in-2 c = rw (c.share_from-in-2.ensures, c.share-first.ensures, c.share-second.ensures, c.in-2.is)
 
-returns-4 : tie.Need-returns-4
+returns-in-3 : tie.Need-returns-in-3
 unfolding share_at shares share_table
-returns-4 c = rw (c.share-from4.ensures, c.before.before.before.share.ensures, c.before.before.share2.ensures, c.before.match.keys4)
+returns-in-3 c = rw (c.share_from-in-3.ensures, c.share-first.ensures, c.share-second.ensures, c.in-3.is)
 
-returns-5 : tie.Need-returns-5
+returns-in_default : tie.Need-returns-in_default
 unfolding share_at shares share_table
-returns-5 c = let a = c.before.before.before.before.args in let r = c.before.match.rest in c.no-share.ensures ∙ no_part Quad a.i (omega (arith, r.1, r.0.1, r.0.0.1, r.0.0.0.1))
+returns-in_default c = let a = c.args in c.no_share.ensures ∙ no_part Quad a.i (omega (arith, c.in_default.in_default-own.rest.1, c.in_default.in_default-own.rest.0.1, c.in_default.in_default-own.rest.0.0.1, c.in_default.in_default-own.rest.0.0.0.1))
 
-pub quad-share-spec : {M : Type 1} → statement M
-quad-share-spec =
+pub quad_share_spec : {M : Type 1} → statement M
+quad_share_spec =
     tie.close
     (tie.spec
-    share-requires
-    share-requires-2
-    share-from-requires
-    share-from-requires-2
-    share-from-requires-3
-    share-from-requires-4
-    no-share-requires
-    returns
-    returns-2
-    returns-3
-    returns-4
-    returns-5)
+    share-first-requires
+    share-second-requires
+    share_from-requires
+    share_from-requires-in-1
+    share_from-requires-in-2
+    share_from-requires-in-3
+    no_share-requires
+    returns-in-0
+    returns-in-1
+    returns-in-2
+    returns-in-3
+    returns-in_default)

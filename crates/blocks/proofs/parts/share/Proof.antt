@@ -5,19 +5,19 @@ use borrow.Author.Rules.{rules}
 use Rattle.blocks.proofs.parts.share.Statement.{statement}
 use Rattle.blocks.proofs.parts.share.Tie as tie
 
-array-read-wide : tie.Need-array-read-wide
-array-read-wide c = search rules
+bounds-i : tie.Need-bounds-i
+bounds-i c = search rules
 
 wide-requires : tie.Need-wide-requires
 wide-requires c κs = search rules
 
-returns : tie.Need-returns
+returns-then-i-lt15 : tie.Need-returns-then-i-lt15
 unfolding share_table
-returns c = cc
+returns-then-i-lt15 c = cc
 
-returns-2 : tie.Need-returns-2
+returns-else-i-lt15 : tie.Need-returns-else-i-lt15
 unfolding share_table
-returns-2 c = sym (get_or-eq_default share_table 0 c.if1.false)
+returns-else-i-lt15 c = sym (get_or-eq_default share_table 0 c.if-i-lt15.false)
 
-pub share-spec : {M : Type 1} → statement M
-share-spec = tie.close (tie.spec array-read-wide wide-requires returns returns-2)
+pub share_spec : {M : Type 1} → statement M
+share_spec = tie.close (tie.spec bounds-i wide-requires returns-then-i-lt15 returns-else-i-lt15)

@@ -5,56 +5,56 @@ use borrow.Author.Rules.{rules}
 use Rattle.blocks.proofs.parts.share_at.Statement.{statement}
 use Rattle.blocks.proofs.parts.share_at.Tie as tie
 
-enum_told : tie.Need-enum-told
-enum_told c = search rules
+enum_told-1 : tie.Need-enum_told-1
+enum_told-1 c = search rules
 
-no-share-requires : tie.Need-no-share-requires
-no-share-requires c κs = search rules
+no_share-requires : tie.Need-no_share-requires
+no_share-requires c κs = search rules
 
-enum-told-2 : tie.Need-enum-told-2
-enum-told-2 c = search rules
+enum_told-in-Quad : tie.Need-enum_told-in-Quad
+enum_told-in-Quad c = search rules
 
-quad-share-requires : tie.Need-quad-share-requires
-quad-share-requires c κs = search rules
+quad_share-requires : tie.Need-quad_share-requires
+quad_share-requires c κs = search rules
 
-enum-known-d : tie.Need-enum-known-d
-enum-known-d c = search rules
+enum_known-d : tie.Need-enum_known-d
+enum_known-d c = search rules
 
-binary-share-requires : tie.Need-binary-share-requires
-binary-share-requires c κs = search rules
+binary_share-requires : tie.Need-binary_share-requires
+binary_share-requires c κs = search rules
 
-enum-known-d-2 : tie.Need-enum-known-d-2
-enum-known-d-2 c = search rules
+enum_known-d-in-Ternary-1 : tie.Need-enum_known-d-in-Ternary-1
+enum_known-d-in-Ternary-1 c = search rules
 
-ternary-share-requires : tie.Need-ternary-share-requires
-ternary-share-requires c κs = search rules
+ternary_share-requires : tie.Need-ternary_share-requires
+ternary_share-requires c κs = search rules
 
-returns : tie.Need-returns
+returns-in-Leaf : tie.Need-returns-in-Leaf
 unfolding share_at shares
-returns c = cc
+returns-in-Leaf c = cc
 
-returns-2 : tie.Need-returns-2
-returns-2 c = cc
+returns-in-Quad : tie.Need-returns-in-Quad
+returns-in-Quad c = cc
 
-returns-3 : tie.Need-returns-3
-returns-3 c = cc
+returns-in-Binary : tie.Need-returns-in-Binary
+returns-in-Binary c = cc
 
-returns-4 : tie.Need-returns-4
-returns-4 c = cc
+returns-in-Ternary : tie.Need-returns-in-Ternary
+returns-in-Ternary c = cc
 
-pub share-at-spec : {M : Type 1} → statement M
-share-at-spec =
+pub share_at_spec : {M : Type 1} → statement M
+share_at_spec =
     tie.close
     (tie.spec
-    enum_told
-    no-share-requires
-    enum-told-2
-    quad-share-requires
-    enum-known-d
-    binary-share-requires
-    enum-known-d-2
-    ternary-share-requires
-    returns
-    returns-2
-    returns-3
-    returns-4)
+    enum_told-1
+    no_share-requires
+    enum_told-in-Quad
+    quad_share-requires
+    enum_known-d
+    binary_share-requires
+    enum_known-d-in-Ternary-1
+    ternary_share-requires
+    returns-in-Leaf
+    returns-in-Quad
+    returns-in-Binary
+    returns-in-Ternary)

@@ -2,24 +2,24 @@ use borrow.Author.Rules.{rules}
 use Rattle.blocks.proofs.parts.share_of.Statement.{statement}
 use Rattle.blocks.proofs.parts.share_of.Tie as tie
 
-enum_told : tie.Need-enum-told
-enum_told c = search rules
+enum_told-1 : tie.Need-enum_told-1
+enum_told-1 c = search rules
 
 share-requires : tie.Need-share-requires
 share-requires c κs = search rules
 
-enum-told-2 : tie.Need-enum-told-2
-enum-told-2 c = search rules
+enum_told-in-Vertical : tie.Need-enum_told-in-Vertical
+enum_told-in-Vertical c = search rules
 
-share-requires-2 : tie.Need-share-requires-2
-share-requires-2 c κs = search rules
+share-requires-in-Vertical : tie.Need-share-requires-in-Vertical
+share-requires-in-Vertical c κs = search rules
 
-returns : tie.Need-returns
-returns c = cc
+returns-in-Horizontal : tie.Need-returns-in-Horizontal
+returns-in-Horizontal c = cc
 
-returns-2 : tie.Need-returns-2
-returns-2 c = cc
+returns-in-Vertical : tie.Need-returns-in-Vertical
+returns-in-Vertical c = cc
 
-pub share-of-spec : {M : Type 1} → statement M
-share-of-spec =
-    tie.close (tie.spec enum_told share-requires enum-told-2 share-requires-2 returns returns-2)
+pub share_of_spec : {M : Type 1} → statement M
+share_of_spec =
+    tie.close (tie.spec enum_told-1 share-requires enum_told-in-Vertical share-requires-in-Vertical returns-in-Horizontal returns-in-Vertical)

@@ -2,25 +2,25 @@ use borrow.Author.Rules.{rules}
 use Rattle.blocks.proofs.parts.slab.Statement.{statement}
 use Rattle.blocks.proofs.parts.slab.Tie as tie
 
-enum_told : tie.Need-enum-told
-enum_told c = search rules
+enum_told-1 : tie.Need-enum_told-1
+enum_told-1 c = search rules
 
-share-from-requires : tie.Need-share-from-requires
-share-from-requires c κs = search rules
+share_from-requires : tie.Need-share_from-requires
+share_from-requires c κs = search rules
 
-enum-told-2 : tie.Need-enum-told-2
-enum-told-2 c = search rules
+enum_told-in-Vertical : tie.Need-enum_told-in-Vertical
+enum_told-in-Vertical c = search rules
 
-share-from-requires-2 : tie.Need-share-from-requires-2
-share-from-requires-2 c κs = search rules
+share_from-requires-in-Vertical : tie.Need-share_from-requires-in-Vertical
+share_from-requires-in-Vertical c κs = search rules
 
-returns : tie.Need-returns
-returns c = cc
+returns-in-Horizontal : tie.Need-returns-in-Horizontal
+returns-in-Horizontal c = cc
 
-returns-2 : tie.Need-returns-2
-returns-2 c = cc
+returns-in-Vertical : tie.Need-returns-in-Vertical
+returns-in-Vertical c = cc
 
-pub slab-spec : {M : Type 1} → statement M
-slab-spec =
+pub slab_spec : {M : Type 1} → statement M
+slab_spec =
     tie.close
-    (tie.spec enum_told share-from-requires enum-told-2 share-from-requires-2 returns returns-2)
+    (tie.spec enum_told-1 share_from-requires enum_told-in-Vertical share_from-requires-in-Vertical returns-in-Horizontal returns-in-Vertical)

@@ -8,60 +8,60 @@ use borrow.Author.Rules.{rules}
 use Rattle.blocks.proofs.parts.ternary_share.Statement.{statement}
 use Rattle.blocks.proofs.parts.ternary_share.Tie as tie
 
-share-of-requires : tie.Need-share-of-requires
-share-of-requires c κs = search rules
+share_of-first-requires : tie.Need-share_of-first-requires
+share_of-first-requires c κs = search rules
 
-share-of-requires-2 : tie.Need-share-of-requires-2
-share-of-requires-2 c κs = search rules
+share_of-second-requires : tie.Need-share_of-second-requires
+share_of-second-requires c κs = search rules
 
 slab-requires : tie.Need-slab-requires
 slab-requires c κs = search rules
 
-slab-requires-2 : tie.Need-slab-requires-2
-slab-requires-2 c κs = search rules
+slab-requires-in-1 : tie.Need-slab-requires-in-1
+slab-requires-in-1 c κs = search rules
 
-add-slab : tie.Need-overflow-add-slab
+overflow_add-first : tie.Need-overflow_add-first
 unfolding share_table
-add-slab c = rw (c.before.share-of2.ensures, c.before.before.share-of.ensures, either_way, either_way) (omega arith)
+overflow_add-first c = rw (c.share_of-second.ensures, c.share_of-first.ensures, either_way, either_way) (omega arith)
 
-share-of-requires-3 : tie.Need-share-of-requires-3
-share-of-requires-3 c κs = search rules
+share_of-requires : tie.Need-share_of-requires
+share_of-requires c κs = search rules
 
-slab-requires-3 : tie.Need-slab-requires-3
-slab-requires-3 c κs = search rules
+slab-requires-in-2 : tie.Need-slab-requires-in-2
+slab-requires-in-2 c κs = search rules
 
-no-share-requires : tie.Need-no-share-requires
-no-share-requires c κs = search rules
+no_share-requires : tie.Need-no_share-requires
+no_share-requires c κs = search rules
 
-returns : tie.Need-returns
+returns-in-0 : tie.Need-returns-in-0
 unfolding share_at shares share_table
-returns c = rw (c.slab.ensures, c.before.before.before.share-of.ensures, either_way, c.before.match.keys1)
+returns-in-0 c = rw (c.slab.ensures, c.share_of-first.ensures, either_way, c.in-0.is)
 
-returns-2 : tie.Need-returns-2
+returns-in-1 : tie.Need-returns-in-1
 unfolding share_at shares share_table
-returns-2 c = rw (c.slab2.ensures, c.before.before.share-of2.ensures, c.before.before.before.share-of.ensures, either_way, either_way, c.before.match.keys2)
+returns-in-1 c = rw (c.slab-in-1.ensures, c.share_of-second.ensures, c.share_of-first.ensures, either_way, either_way, c.in-1.is)
 
-returns-3 : tie.Need-returns-3
+returns-in-2 : tie.Need-returns-in-2
 unfolding share_at shares share_table
-returns-3 c = rw (c.slab3.ensures, c.before.share-of3.ensures, c.before.before.before.share-of2.ensures, c.before.before.before.before.share-of.ensures, either_way, either_way, c.before.before.match.keys3)
+returns-in-2 c = rw (c.slab-in-2.ensures, c.share_of.ensures, c.share_of-second.ensures, c.share_of-first.ensures, either_way, either_way, c.in-2.is)
 
-returns-4 : tie.Need-returns-4
+returns-in_default : tie.Need-returns-in_default
 unfolding share_at shares share_table
-returns-4 c = let a = c.before.before.before.before.args in let r = c.before.match.rest in c.no-share.ensures ∙ no_part (Ternary a.d) a.i (omega (arith, r.1, r.0.1, r.0.0.1))
+returns-in_default c = let a = c.args in c.no_share.ensures ∙ no_part (Ternary a.d) a.i (omega (arith, c.in_default.in_default-own.rest.1, c.in_default.in_default-own.rest.0.1, c.in_default.in_default-own.rest.0.0.1))
 
-pub ternary-share-spec : {M : Type 1} → statement M
-ternary-share-spec =
+pub ternary_share_spec : {M : Type 1} → statement M
+ternary_share_spec =
     tie.close
     (tie.spec
-    share-of-requires
-    share-of-requires-2
+    share_of-first-requires
+    share_of-second-requires
     slab-requires
-    slab-requires-2
-    add-slab
-    share-of-requires-3
-    slab-requires-3
-    no-share-requires
-    returns
-    returns-2
-    returns-3
-    returns-4)
+    slab-requires-in-1
+    overflow_add-first
+    share_of-requires
+    slab-requires-in-2
+    no_share-requires
+    returns-in-0
+    returns-in-1
+    returns-in-2
+    returns-in_default)

@@ -8,30 +8,29 @@ use borrow.Author.Rules.{rules}
 use Rattle.blocks.proofs.rows.put_row.Statement.{statement}
 use Rattle.blocks.proofs.rows.put_row.Tie as tie
 
+returns-then-rows-lt8 : tie.Need-returns-then-rows-lt8
+unfolding put_word
+returns-then-rows-lt8 c = let no = lt-leb (c.args.at + 8) (length c.args.rows.now) (omega arith) in record { room = sym no; bytes = rw no }
+
+overflow_sub-rows : tie.Need-overflow_sub-rows
+overflow_sub-rows c = search rules
+
+returns-then-rows-at : tie.Need-returns-then-rows-at
+unfolding put_word
+returns-then-rows-at c = let no = lt-leb (c.args.at + 8) (length c.args.rows.now) (omega arith) in record { room = sym no; bytes = rw no }
+
+store_word-requires : tie.Need-store_word-requires
+store_word-requires c κs = search rules
+
+shape_of-rows : tie.Need-shape_of-rows
+shape_of-rows c = search rules
+
 returns : tie.Need-returns
 unfolding put_word
-returns c = let no = lt-leb (c.before.before.args.at + 8) (length c.before.before.args.rows.now) (omega arith) in record { room = sym no; bytes = rw no }
+returns c =
+    let yes = le-leb (c.args.at + 8) (length c.args.rows.now) (omega arith) in
+    record { room = sym yes; bytes = rw yes c.store_word.ensures }
 
-sub-if2 : tie.Need-overflow-sub-if2
-sub-if2 c = search rules
-
-returns-2 : tie.Need-returns-2
-unfolding put_word
-returns-2 c = let no = lt-leb (c.before.before.before.args.at + 8) (length c.before.before.before.args.rows.now) (omega arith) in record { room = sym no; bytes = rw no }
-
-store-word-requires : tie.Need-store-word-requires
-store-word-requires c κs = search rules
-
-same_length : tie.Need-same-length
-same_length c = search rules
-
-returns-3 : tie.Need-returns-3
-unfolding put_word
-returns-3 c =
-    let st = c.before.before.before.before.before.before.before in
-    let yes = le-leb (st.args.at + 8) (length st.args.rows.now) (omega arith) in
-    record { room = sym yes; bytes = rw yes c.before.before.Store-word.ensures }
-
-pub put-row-spec : {M : Type 1} → statement M
-put-row-spec =
-    tie.close (tie.spec returns sub-if2 returns-2 store-word-requires same_length returns-3)
+pub put_row_spec : {M : Type 1} → statement M
+put_row_spec =
+    tie.close (tie.spec returns-then-rows-lt8 overflow_sub-rows returns-then-rows-at store_word-requires shape_of-rows returns)

@@ -6,15 +6,15 @@ use borrow.Author.Rules.{rules}
 use Rattle.blocks.proofs.rows.store_word.Statement.{statement}
 use Rattle.blocks.proofs.rows.store_word.Tie as tie
 
-same_length : tie.Need-same-length
-same_length c = simp length-set
+shape_of-rows : tie.Need-shape_of-rows
+shape_of-rows c = simp length-set
 
 returns : tie.Need-returns
 unfolding word_bytes
 returns c = simp towards_suc
 
-pub store-word-spec : {M : Type 1} → statement M
-store-word-spec =
+pub store_word_spec : {M : Type 1} → statement M
+store_word_spec =
     tie.close
     (tie.spec
     (λ c. search rules) (λ c. search rules)
@@ -25,5 +25,5 @@ store-word-spec =
     (λ c. search rules) (λ c. search rules) (λ c. simp length-set (omega arith))
     (λ c. search rules) (λ c. search rules) (λ c. simp length-set (omega arith))
     (λ c. search rules) (λ c. search rules) (λ c. simp length-set (omega arith))
-    same_length
+    shape_of-rows
     returns)

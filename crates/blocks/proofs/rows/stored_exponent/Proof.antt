@@ -7,11 +7,11 @@ use Rattle.blocks.proofs.rows.stored_exponent.Tie as tie
 exponent-requires : tie.Need-exponent-requires
 exponent-requires c κs = search rules
 
-cast-result : tie.Need-overflow-cast-result
-cast-result c = search rules
+overflow_cast-result : tie.Need-overflow_cast-result
+overflow_cast-result c = search rules
 
 returns : tie.Need-returns
-returns c = omega (arith, trailing_le 32 c.before.args.side)
+returns c = omega (arith, trailing_le 32 c.args.side)
 
-pub stored-exponent-spec : {M : Type 1} → statement M
-stored-exponent-spec = tie.close (tie.spec exponent-requires cast-result returns)
+pub stored_exponent_spec : {M : Type 1} → statement M
+stored_exponent_spec = tie.close (tie.spec exponent-requires overflow_cast-result returns)

@@ -5,9 +5,7 @@ use Rattle.flags.proofs.put.put_out.Tie as tie
 
 returns : tie.Need-returns
 returns c =
-    let q = c.before in
-    let s = q.before.before in
-    rw (out_flags s.args.splits s.args.d s.requires.2 s.requires.3 s.requires.4 s.requires.5, ← q.is-quad.ensures) c.put.ensures.0
+    rw (out_flags c.args.splits c.args.d c.requires.2 c.requires.3 c.requires.4 c.requires.5, ← c.is_quad.ensures) c.put.ensures.0
 
-pub put-out-spec : {M : Type 1} → statement M
-put-out-spec = tie.close (tie.spec (λ c. search rules) (λ c κs. search rules) (λ c κs. search rules) returns)
+pub put_out_spec : {M : Type 1} → statement M
+put_out_spec = tie.close (tie.spec (λ c. search rules) (λ c κs. search rules) (λ c κs. search rules) returns)

@@ -4,7 +4,7 @@ use Rattle.nodes.proofs.below.open_below.Statement.{statement}
 use Rattle.nodes.proofs.below.open_below.Tie as tie
 
 returns : tie.Need-returns
-returns c = rw (c.inner-splits.ensures, c.before.bit.ensures.0)
+returns c = rw (c.inner_splits.ensures, c.bit.ensures.0)
 
-pub open-below-spec : {M : Type 1} → statement M
-open-below-spec = tie.close (tie.spec (λ c κs. search rules) (λ c. search rules) (λ c κs. search rules) returns)
+pub open_below_spec : {M : Type 1} → statement M
+open_below_spec = tie.close (tie.spec (λ c κs. search rules) (λ c. search rules) (λ c κs. search rules) returns)

@@ -2,14 +2,14 @@ use Rattle.std.proofs.Common.{arith, ne_eqb}
 use Rattle.nodes.proofs.children.fall.Statement.{statement}
 use Rattle.nodes.proofs.children.fall.Tie as tie
 
-returns : tie.Need-returns
-returns c = (rw c.if1.true, omega arith)
+returns-then-size-eq1 : tie.Need-returns-then-size-eq1
+returns-then-size-eq1 c = (rw c.if-size-eq1.true, omega arith)
 
-returns-2 : tie.Need-returns-2
-returns-2 c = (rw c.if2.true, omega arith)
+returns-then-size-eq2 : tie.Need-returns-then-size-eq2
+returns-then-size-eq2 c = (rw c.if-size-eq2.true, omega arith)
 
-returns-3 : tie.Need-returns-3
-returns-3 c = (rw (ne_eqb _ 1 c.before.if1.false, ne_eqb _ 2 c.if2.false), omega arith)
+returns-else-size-eq2 : tie.Need-returns-else-size-eq2
+returns-else-size-eq2 c = (rw (ne_eqb _ 1 c.if-size-eq1.false, ne_eqb _ 2 c.if-size-eq2.false), omega arith)
 
-pub fall-spec : {M : Type 1} → statement M
-fall-spec = tie.close (tie.spec returns returns-2 returns-3)
+pub fall_spec : {M : Type 1} → statement M
+fall_spec = tie.close (tie.spec returns-then-size-eq1 returns-then-size-eq2 returns-else-size-eq2)

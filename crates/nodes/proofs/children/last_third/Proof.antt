@@ -4,18 +4,15 @@ use Rattle.nodes.proofs.CutParts.{outer_share, middle_share, last_third_is}
 use Rattle.nodes.proofs.children.last_third.Statement.{statement}
 use Rattle.nodes.proofs.children.last_third.Tie as tie
 
-add_start : tie.Need-overflow-add-start
-add_start c = rw (c.before.share-of.ensures, c.share-of2.ensures, outer_share, middle_share) (omega arith)
+overflow_add-start : tie.Need-overflow_add-start
+overflow_add-start c = rw (c.share_of-middle.ensures, c.share_of.ensures, outer_share, middle_share) (omega arith)
 
-step-along-requires : tie.Need-step-along-requires
-step-along-requires c κs = rw (c.before.before.share-of.ensures, c.before.share-of2.ensures, outer_share, middle_share) (omega arith)
+step_along-requires : tie.Need-step_along-requires
+step_along-requires c κs = rw (c.share_of-middle.ensures, c.share_of.ensures, outer_share, middle_share) (omega arith)
 
 returns : tie.Need-returns
 returns c =
-    let s = c.before in
-    let f = s.before in
-    let h = f.before in
-    rw (c.wrapping-add-u64.ensures, s.step-along.ensures, f.first-third.ensures, h.share-of2.ensures, h.before.share-of.ensures, outer_share, middle_share) (last_third_is _ _)
+    rw (c.wrapping_add_u64.ensures, c.step_along.ensures, c.first_third.ensures, c.share_of.ensures, c.share_of-middle.ensures, outer_share, middle_share) (last_third_is _ _)
 
-pub last-third-spec : {M : Type 1} → statement M
-last-third-spec = tie.close (tie.spec (λ c κs. search rules) (λ c κs. search rules) add_start (λ c κs. search rules) step-along-requires (λ c κs. search rules) returns)
+pub last_third_spec : {M : Type 1} → statement M
+last_third_spec = tie.close (tie.spec (λ c κs. search rules) (λ c κs. search rules) overflow_add-start (λ c κs. search rules) step_along-requires (λ c κs. search rules) returns)

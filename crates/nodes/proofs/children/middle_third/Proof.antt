@@ -4,15 +4,12 @@ use Rattle.nodes.proofs.CutParts.{outer_share, middle_share, middle_third_is}
 use Rattle.nodes.proofs.children.middle_third.Statement.{statement}
 use Rattle.nodes.proofs.children.middle_third.Tie as tie
 
-step-along-requires : tie.Need-step-along-requires
-step-along-requires c κs = rw (c.before.before.share-of.ensures, outer_share) (omega arith)
+step_along-requires : tie.Need-step_along-requires
+step_along-requires c κs = rw (c.share_of-start.ensures, outer_share) (omega arith)
 
 returns : tie.Need-returns
 returns c =
-    let s = c.before in
-    let m = s.before in
-    let h = m.before in
-    rw (c.wrapping-add-u64.ensures, s.step-along.ensures, m.cut-part.ensures, h.share-of2.ensures, h.before.share-of.ensures, outer_share, middle_share) (middle_third_is _ _)
+    rw (c.wrapping_add_u64.ensures, c.step_along.ensures, c.cut_part-middle.ensures, c.share_of.ensures, c.share_of-start.ensures, outer_share, middle_share) (middle_third_is _ _)
 
-pub middle-third-spec : {M : Type 1} → statement M
-middle-third-spec = tie.close (tie.spec (λ c κs. search rules) (λ c κs. search rules) (λ c κs. search rules) step-along-requires (λ c κs. search rules) returns)
+pub middle_third_spec : {M : Type 1} → statement M
+middle_third_spec = tie.close (tie.spec (λ c κs. search rules) (λ c κs. search rules) (λ c κs. search rules) step_along-requires (λ c κs. search rules) returns)

@@ -8,8 +8,7 @@ use Rattle.nodes.proofs.edge.begins_inside.Tie as tie
 returns : tie.Need-returns
 unfolding node_in corner_inside
 returns c =
-    let t = c.before in
-    rw (t.before.before.left.ensures.0, t.top.ensures.0)
+    rw (c.left.ensures.0, c.top.ensures.0)
 
-pub begins-inside-spec : {M : Type 1} → statement M
-begins-inside-spec = tie.close (tie.spec (λ c κs. search rules) (λ c. search rules) (λ c κs. search rules) (λ c. search rules) returns)
+pub begins_inside_spec : {M : Type 1} → statement M
+begins_inside_spec = tie.close (tie.spec (λ c κs. search rules) (λ c. search rules) (λ c κs. search rules) (λ c. search rules) returns)

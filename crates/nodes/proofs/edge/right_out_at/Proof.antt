@@ -6,7 +6,7 @@ use Rattle.nodes.proofs.edge.right_out_at.Tie as tie
 
 returns : tie.Need-returns
 unfolding node_in
-returns c = rw (c.before.left.ensures.0, c.width.ensures.0)
+returns c = rw (c.left.ensures.0, c.width.ensures.0)
 
-pub right-out-at-spec : {M : Type 1} → statement M
-right-out-at-spec = tie.close (tie.spec (λ c. search rules) (λ c κs. search rules) (λ c κs. search rules) (λ c. search rules) returns)
+pub right_out_at_spec : {M : Type 1} → statement M
+right_out_at_spec = tie.close (tie.spec (λ c. search rules) (λ c κs. search rules) (λ c κs. search rules) (λ c. search rules) returns)

@@ -6,5 +6,5 @@ use Rattle.nodes.proofs.fields.side.Tie as tie
 returns : tie.Need-returns
 returns c = (omega (arith, side_small c.requires), omega (arith, side_small c.requires))
 
-pub side-spec : {M : Type 1} → statement M
-side-spec = tie.close (tie.spec (λ c. search rules) returns)
+pub side_spec : {M : Type 1} → statement M
+side_spec = tie.close (tie.spec (λ c. search rules) returns)

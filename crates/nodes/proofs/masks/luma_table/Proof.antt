@@ -6,10 +6,10 @@ use Rattle.nodes.proofs.masks.luma_table.Tie as tie
 
 returns : tie.Need-returns
 unfolding table_of open_splits
-returns c = rw (c.before.before.before.before.before.before.before.before.before.before.before.side-mask.ensures, c.before.before.before.before.before.before.before.before.before.before.side-mask2.ensures, c.before.before.before.before.before.before.before.before.before.side-mask3.ensures, c.before.before.before.before.before.before.before.before.side-mask4.ensures, c.before.before.before.before.before.before.before.side-mask5.ensures, c.before.before.before.before.before.before.side-mask6.ensures, c.before.before.before.before.before.side-mask7.ensures, c.before.before.before.before.side-mask8.ensures, c.before.before.before.side-mask9.ensures, c.before.before.side-mask10.ensures, c.before.side-mask11.ensures, c.side-mask12.ensures)
+returns c = rw (c.side_mask.ensures, c.side_mask-2.ensures, c.side_mask-3.ensures, c.side_mask-4.ensures, c.side_mask-5.ensures, c.side_mask-6.ensures, c.side_mask-7.ensures, c.side_mask-8.ensures, c.side_mask-9.ensures, c.side_mask-10.ensures, c.side_mask-11.ensures, c.side_mask-12.ensures)
 
-pub luma-table-spec : {M : Type 1} → statement M
-luma-table-spec =
+pub luma_table_spec : {M : Type 1} → statement M
+luma_table_spec =
     tie.close
     (tie.spec (λ c κs. search rules) (λ c κs. search rules) (λ c κs. search rules) (λ c κs. search rules) (λ c κs. search rules) (λ c κs. search rules)
     (λ c κs. search rules) (λ c κs. search rules) (λ c κs. search rules) (λ c κs. search rules) (λ c κs. search rules) (λ c κs. search rules) returns)

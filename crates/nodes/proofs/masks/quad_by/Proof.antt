@@ -2,8 +2,8 @@ use Rattle.std.proofs.Common.{rules}
 use Rattle.nodes.proofs.masks.quad_by.Statement.{statement}
 use Rattle.nodes.proofs.masks.quad_by.Tie as tie
 
-returns-2 : tie.Need-returns-2
-returns-2 c = rw c.before.enum-told2.given.1
+returns-in-Vertical : tie.Need-returns-in-Vertical
+returns-in-Vertical c = rw c.in-Vertical.is
 
-pub quad-by-spec : {M : Type 1} → statement M
-quad-by-spec = tie.close (tie.spec (λ c. search rules) (λ c. search rules) (λ c. search rules) returns-2)
+pub quad_by_spec : {M : Type 1} → statement M
+quad_by_spec = tie.close (tie.spec (λ c. search rules) (λ c. search rules) (λ c. search rules) returns-in-Vertical)

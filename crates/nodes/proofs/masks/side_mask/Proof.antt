@@ -5,10 +5,10 @@ use Rattle.nodes.proofs.masks.side_mask.Tie as tie
 
 returns : tie.Need-returns
 unfolding open_splits
-returns c = rw (c.bit5.ensures.0, c.before.ternary-by2.ensures, c.before.before.bit4.ensures.0, c.before.before.before.ternary-by.ensures, c.before.before.before.before.bit3.ensures.0, c.before.before.before.before.before.binary-by2.ensures, c.before.before.before.before.before.before.bit2.ensures.0, c.before.before.before.before.before.before.before.binary-by.ensures, c.before.before.before.before.before.before.before.before.bit.ensures.0, c.before.before.before.before.before.before.before.before.before.quad-by.ensures)
+returns c = rw (c.bit-5.ensures.0, c.ternary_by-2.ensures, c.bit-4.ensures.0, c.ternary_by.ensures, c.bit-3.ensures.0, c.binary_by-2.ensures, c.bit-2.ensures.0, c.binary_by.ensures, c.bit.ensures.0, c.quad_by.ensures)
 
-pub side-mask-spec : {M : Type 1} → statement M
-side-mask-spec =
+pub side_mask_spec : {M : Type 1} → statement M
+side_mask_spec =
     tie.close
     (tie.spec (λ c κs. search rules) (λ c κs. search rules) (λ c κs. search rules) (λ c κs. search rules) (λ c. search rules) (λ c κs. search rules)
     (λ c κs. search rules) (λ c. search rules) (λ c κs. search rules) (λ c κs. search rules) (λ c. search rules) (λ c κs. search rules) (λ c κs. search rules)

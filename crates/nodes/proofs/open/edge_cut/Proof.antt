@@ -3,16 +3,14 @@ use Rattle.std.proofs.Common.{sym, arith, rules}
 use Rattle.nodes.proofs.open.edge_cut.Statement.{statement}
 use Rattle.nodes.proofs.open.edge_cut.Tie as tie
 
-returns : tie.Need-returns
-returns c =
-    let w = c.before.before in
-    (rw (w.before.if1.true, sym w.width-exponent.ensures.0, c.if2.true), omega arith)
+returns-then-right-u : tie.Need-returns-then-right-u
+returns-then-right-u c =
+    (rw (c.if-bottom.true, sym c.width_exponent.ensures.0, c.if-right-u.true), omega arith)
 
-returns-2 : tie.Need-returns-2
-returns-2 c =
-    let w = c.before.before in
-    (rw (w.before.if1.true, sym w.width-exponent.ensures.0, c.if2.false), omega arith)
+returns-else-right-u : tie.Need-returns-else-right-u
+returns-else-right-u c =
+    (rw (c.if-bottom.true, sym c.width_exponent.ensures.0, c.if-right-u.false), omega arith)
 
-pub edge-cut-spec : {M : Type 1} → statement M
-edge-cut-spec =
-    tie.close (tie.spec (λ c κs. search rules) (λ c. search rules) (λ c. search rules) (λ c. search rules) (λ c. search rules) returns returns-2 (λ c. search rules))
+pub edge_cut_spec : {M : Type 1} → statement M
+edge_cut_spec =
+    tie.close (tie.spec (λ c κs. search rules) (λ c. search rules) (λ c. search rules) (λ c. search rules) (λ c. search rules) returns-then-right-u returns-else-right-u (λ c. search rules))

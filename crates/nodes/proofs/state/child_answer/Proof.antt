@@ -2,11 +2,11 @@ use Rattle.std.proofs.Common.{le-ltb, lt-ltb}
 use Rattle.nodes.proofs.state.child_answer.Statement.{statement}
 use Rattle.nodes.proofs.state.child_answer.Tie as tie
 
-returns : tie.Need-returns
-returns c = rw (lt-ltb _ _ c.if1.true)
+returns-then-answer-lt-REFUSED : tie.Need-returns-then-answer-lt-REFUSED
+returns-then-answer-lt-REFUSED c = rw (lt-ltb _ _ c.if-answer-lt-REFUSED.true)
 
-returns-2 : tie.Need-returns-2
-returns-2 c = rw (le-ltb _ _ c.if1.false)
+returns-else-answer-lt-REFUSED : tie.Need-returns-else-answer-lt-REFUSED
+returns-else-answer-lt-REFUSED c = rw (le-ltb _ _ c.if-answer-lt-REFUSED.false)
 
-pub child-answer-spec : {M : Type 1} → statement M
-child-answer-spec = tie.close (tie.spec returns returns-2)
+pub child_answer_spec : {M : Type 1} → statement M
+child_answer_spec = tie.close (tie.spec returns-then-answer-lt-REFUSED returns-else-answer-lt-REFUSED)

@@ -7,7 +7,7 @@ stepped : (c p n s a : ℕ) → (s + p) % 2 ^ 64 ≡ n → a ≡ (c + s) % 2 ^ 6
 stepped c p n s a e f = omega arith
 
 returns : tie.Need-returns
-returns c = rw (← c.before.before.place.ensures.0) (stepped _ _ _ _ _ c.before.wrapping-sub-u64.ensures c.wrapping-add-u64.ensures)
+returns c = rw (← c.place.ensures.0) (stepped _ _ _ _ _ c.wrapping_sub_u64.ensures c.wrapping_add_u64.ensures)
 
-pub moved-to-spec : {M : Type 1} → statement M
-moved-to-spec = tie.close (tie.spec (λ c κs. search rules) (λ c κs. search rules) (λ c κs. search rules) returns)
+pub moved_to_spec : {M : Type 1} → statement M
+moved_to_spec = tie.close (tie.spec (λ c κs. search rules) (λ c κs. search rules) (λ c κs. search rules) returns)

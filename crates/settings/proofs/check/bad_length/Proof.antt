@@ -13,5 +13,5 @@ multiple-requires c κs = rw c.most.ensures (larger_side c.before.args.mincb c.b
 returns : tie.Need-returns
 returns c = rw (c.multiple.ensures, c.before.most.ensures)
 
-pub bad-length-spec : {M : Type 1} → statement M
-bad-length-spec = tie.close (tie.spec most-requires multiple-requires returns)
+pub bad_length_spec : {M : Type 1} → statement M
+bad_length_spec = tie.close (tie.spec most-requires multiple-requires returns)

@@ -18,65 +18,65 @@ exponent-requires c κs = search rules
 exponent-requires-2 : tie.Need-exponent-requires-2
 exponent-requires-2 c κs = search rules
 
-sub-if1 : tie.Need-overflow-sub-if1
-sub-if1 c =
+overflow_sub-exponent : tie.Need-overflow_sub-exponent
+overflow_sub-exponent c =
     let a = c.before.before in
     let p = sides a.args.s a.requires in
     let u = unit_side p.ctu in
     let l = exponents p.cb.is u.is (omega arith) in
     omega arith
 
-mul-if1 : tie.Need-overflow-mul-if1
-mul-if1 c = omega (arith, trailing_le 32 c.before.before.args.s.ctu)
+overflow_mul-exponent : tie.Need-overflow_mul-exponent
+overflow_mul-exponent c = omega (arith, trailing_le 32 c.before.before.args.s.ctu)
 
-returns : tie.Need-returns
-returns c =
+returns-then-exponent-s : tie.Need-returns-then-exponent-s
+returns-then-exponent-s c =
     let b = c.before.before in
-    rw (← b.before.exponent.ensures, ← b.exponent2.ensures, lt-ltb _ _ c.if1.true)
+    rw (← b.before.exponent.ensures, ← b.exponent-2.ensures, lt-ltb _ _ c.if-exponent-s.true)
 
-side-from-requires : tie.Need-side-from-requires
-side-from-requires c κs = search rules
+side_from-requires : tie.Need-side_from-requires
+side_from-requires c κs = search rules
 
-returns-2 : tie.Need-returns-2
-returns-2 c =
+returns-then-not-side_from : tie.Need-returns-then-not-side_from
+returns-then-not-side_from c =
     let a = c.before.before in
     let e = a.before.before in
-    rw (← e.before.exponent.ensures, ← e.exponent2.ensures, le-ltb _ _ a.if1.false, ← c.before.side-from.ensures, c.if2.true)
+    rw (← e.before.exponent.ensures, ← e.exponent-2.ensures, le-ltb _ _ a.if-exponent-s.false, ← c.before.side_from.ensures, c.if-not-side_from.true-raw)
 
 least-requires : tie.Need-least-requires
 least-requires c κs = search rules
 
-side-from-requires-2 : tie.Need-side-from-requires-2
-side-from-requires-2 c κs = search rules
+side_from-requires-2 : tie.Need-side_from-requires-2
+side_from-requires-2 c κs = search rules
 
 -- where 4 and 5 pass, 6 decides
-third : (c : tie.After-side-from2) {b : Bool} → not c.side-from2.result ≡ b
+third : (c : tie.After-side_from-2) {b : Bool} → not c.side_from-2.result ≡ b
     → first_hit 6 (b ∷ []) ≡ first_hit 4 (limit_rules c.before.before.before.before.before.before.before.before.args.s)
 third c h =
     let b = c.before.before in
     let a = b.before.before in
     let e = a.before.before in
-    rw (← e.before.exponent.ensures, ← e.exponent2.ensures, le-ltb _ _ a.if1.false)
-    (rw (← b.before.side-from.ensures, b.if2.false, ← c.before.least.ensures, ← c.side-from2.ensures, h))
+    rw (← e.before.exponent.ensures, ← e.exponent-2.ensures, le-ltb _ _ a.if-exponent-s.false)
+    (rw (← b.before.side_from.ensures, b.if-not-side_from.false-raw, ← c.before.least.ensures, ← c.side_from-2.ensures, h))
 
-returns-3 : tie.Need-returns-3
-returns-3 c = third c.before c.if3.true
+returns-then-not-side_from-2 : tie.Need-returns-then-not-side_from-2
+returns-then-not-side_from-2 c = third c.before c.if-not-side_from-2.true-raw
 
-returns-4 : tie.Need-returns-4
-returns-4 c = third c.before c.if3.false
+returns : tie.Need-returns
+returns c = third c.before c.if-not-side_from-2.false-raw
 
-pub limit-refusal-spec : {M : Type 1} → statement M
-limit-refusal-spec =
+pub limit_refusal_spec : {M : Type 1} → statement M
+limit_refusal_spec =
     tie.close
     (tie.spec
     exponent-requires
     exponent-requires-2
-    sub-if1
-    mul-if1
-    returns
-    side-from-requires
-    returns-2
+    overflow_sub-exponent
+    overflow_mul-exponent
+    returns-then-exponent-s
+    side_from-requires
+    returns-then-not-side_from
     least-requires
-    side-from-requires-2
-    returns-3
-    returns-4)
+    side_from-requires-2
+    returns-then-not-side_from-2
+    returns)

@@ -11,19 +11,19 @@ use Rattle.settings.proofs.check.picture_refusal.Tie as tie
 start : (c : tie.Start) → Sides c.args.s
 start c = sides c.args.s c.requires
 
-bad-length-requires : tie.Need-bad-length-requires
-bad-length-requires c κs = (start c).cb.is
+bad_length-requires : tie.Need-bad_length-requires
+bad_length-requires c κs = (start c).cb.is
 
-returns : tie.Need-returns
-returns c = rw (← c.before.bad-length.ensures, c.if1.true)
+returns-then-bad_length : tie.Need-returns-then-bad_length
+returns-then-bad_length c = rw (← c.before.bad_length.ensures, c.if-bad_length.true)
 
-bad-length-requires-2 : tie.Need-bad-length-requires-2
-bad-length-requires-2 c κs = (start c.before.before).cb.is
+bad_length-requires-2 : tie.Need-bad_length-requires-2
+bad_length-requires-2 c κs = (start c.before.before).cb.is
 
-returns-2 : tie.Need-returns-2
-returns-2 c =
+returns-then-bad_length-2 : tie.Need-returns-then-bad_length-2
+returns-then-bad_length-2 c =
     let a = c.before.before in
-    rw (← a.before.bad-length.ensures, a.if1.false, ← c.before.bad-length2.ensures, c.if2.true)
+    rw (← a.before.bad_length.ensures, a.if-bad_length.false, ← c.before.bad_length-2.ensures, c.if-bad_length-2.true)
 
 multiple-requires : tie.Need-multiple-requires
 multiple-requires c κs = (start c.before.before.before.before.before).qt.is
@@ -32,29 +32,29 @@ multiple-requires-2 : tie.Need-multiple-requires-2
 multiple-requires-2 c κs = (start c.before.before.before.before.before.before).qt.is
 
 -- where 7 and 8 pass, 9 decides
-third : (c : tie.After-multiple2) {b : Bool} → let s = c.before.before.before.before.before.before.before.args.s in
-    (eqb s.maxmtt 0 && not (c.before.multiple.result && c.multiple2.result)) ≡ b
+third : (c : tie.After-multiple-2) {b : Bool} → let s = c.before.before.before.before.before.before.before.args.s in
+    (eqb s.maxmtt 0 && not (c.before.multiple.result && c.multiple-2.result)) ≡ b
     → first_hit 9 (b ∷ []) ≡ first_hit 7 (picture_rules s)
 third c h =
     let b = c.before.before.before in
     let a = b.before.before in
-    rw (← a.before.bad-length.ensures, a.if1.false, ← b.before.bad-length2.ensures, b.if2.false, ← c.before.multiple.ensures, ← c.multiple2.ensures, h)
+    rw (← a.before.bad_length.ensures, a.if-bad_length.false, ← b.before.bad_length-2.ensures, b.if-bad_length-2.false, ← c.before.multiple.ensures, ← c.multiple-2.ensures, h)
 
-returns-3 : tie.Need-returns-3
-returns-3 c = third c.before c.if3.true
+returns-then-s-multiple : tie.Need-returns-then-s-multiple
+returns-then-s-multiple c = third c.before c.if-s-multiple.true
 
-returns-4 : tie.Need-returns-4
-returns-4 c = third c.before c.if3.false
+returns : tie.Need-returns
+returns c = third c.before c.if-s-multiple.false
 
-pub picture-refusal-spec : {M : Type 1} → statement M
-picture-refusal-spec =
+pub picture_refusal_spec : {M : Type 1} → statement M
+picture_refusal_spec =
     tie.close
     (tie.spec
-    bad-length-requires
-    returns
-    bad-length-requires-2
-    returns-2
+    bad_length-requires
+    returns-then-bad_length
+    bad_length-requires-2
+    returns-then-bad_length-2
     multiple-requires
     multiple-requires-2
-    returns-3
-    returns-4)
+    returns-then-s-multiple
+    returns)

@@ -7,45 +7,45 @@ use Rattle.settings.specs.Checks.{side_rules, first_hit}
 use Rattle.settings.proofs.check.side_refusal.Statement.{statement}
 use Rattle.settings.proofs.check.side_refusal.Tie as tie
 
-returns : tie.Need-returns
-returns c = rw c.if1.true
+returns-then-not-s : tie.Need-returns-then-not-s
+returns-then-not-s c = rw c.if-not-s.true-raw
 
-least-requires : tie.Need-least-requires
-least-requires c κs = search rules
+least-small-requires : tie.Need-least-small-requires
+least-small-requires c κs = search rules
 
-side-from-requires : tie.Need-side-from-requires
-side-from-requires c κs = search rules
+side_from-requires : tie.Need-side_from-requires
+side_from-requires c κs = search rules
 
-returns-2 : tie.Need-returns-2
-returns-2 c =
+returns-then-not-side_from : tie.Need-returns-then-not-side_from
+returns-then-not-side_from c =
     let b = c.before.before in
-    rw (b.before.if1.false, ← b.least.ensures, ← c.before.side-from.ensures, c.if2.true)
+    rw (b.before.if-not-s.false-raw, ← b.least-small.ensures, ← c.before.side_from.ensures, c.if-not-side_from.true-raw)
 
-side-from-requires-2 : tie.Need-side-from-requires-2
-side-from-requires-2 c κs = search rules
+side_from-requires-2 : tie.Need-side_from-requires-2
+side_from-requires-2 c κs = search rules
 
 -- where 1 and 2 pass, 3 decides
-third : (c : tie.After-side-from2) {b : Bool} → not c.side-from2.result ≡ b
+third : (c : tie.After-side_from-2) {b : Bool} → not c.side_from-2.result ≡ b
     → first_hit 3 (b ∷ []) ≡ first_hit 1 (side_rules c.before.before.before.before.before.before.before.before.args.s)
 third c h =
     let b = c.before in
     let a = b.before.before in
-    rw (a.before.if1.false, ← a.least.ensures, ← b.before.side-from.ensures, b.if2.false, ← c.side-from2.ensures, h)
+    rw (a.before.if-not-s.false-raw, ← a.least-small.ensures, ← b.before.side_from.ensures, b.if-not-side_from.false-raw, ← c.side_from-2.ensures, h)
 
-returns-3 : tie.Need-returns-3
-returns-3 c = third c.before c.if3.true
+returns-then-not-side_from-2 : tie.Need-returns-then-not-side_from-2
+returns-then-not-side_from-2 c = third c.before c.if-not-side_from-2.true-raw
 
-returns-4 : tie.Need-returns-4
-returns-4 c = third c.before c.if3.false
+returns : tie.Need-returns
+returns c = third c.before c.if-not-side_from-2.false-raw
 
-pub side-refusal-spec : {M : Type 1} → statement M
-side-refusal-spec =
+pub side_refusal_spec : {M : Type 1} → statement M
+side_refusal_spec =
     tie.close
     (tie.spec
-    returns
-    least-requires
-    side-from-requires
-    returns-2
-    side-from-requires-2
-    returns-3
-    returns-4)
+    returns-then-not-s
+    least-small-requires
+    side_from-requires
+    returns-then-not-side_from
+    side_from-requires-2
+    returns-then-not-side_from-2
+    returns)

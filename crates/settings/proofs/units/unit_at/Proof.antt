@@ -8,20 +8,20 @@ use Rattle.settings.proofs.Grid.{gridded}
 use Rattle.settings.proofs.units.unit_at.Statement.{statement}
 use Rattle.settings.proofs.units.unit_at.Tie as tie
 
-refusal-requires : tie.Need-refusal-requires
-refusal-requires c κs = search rules
+refusal-k-requires : tie.Need-refusal-k-requires
+refusal-k-requires c κs = search rules
 
-returns : tie.Need-returns
+returns-then-k-ne0 : tie.Need-returns-then-k-ne0
 unfolding located_by refusal_at
-returns c = let n = ne_eqb _ 0 c.if1.true in rw (← c.before.refusal.ensures, n, n)
+returns-then-k-ne0 c = let n = ne_eqb _ 0 c.if-k-ne0.true in rw (← c.before.refusal-k.ensures, n, n)
 
 locate-requires : tie.Need-locate-requires
-locate-requires c κs = gridded (passed c.before.before.args.s (sym c.before.refusal.ensures ∙ c.if1.false))
+locate-requires c κs = gridded (passed c.before.before.args.s (sym c.before.refusal-k.ensures ∙ c.if-k-ne0.false))
 
-returns-2 : tie.Need-returns-2
-returns-2 c =
+returns : tie.Need-returns
+returns c =
     let a = c.before in
-    rw (c.locate.ensures, ← a.before.refusal.ensures, a.if1.false)
+    rw (c.locate.ensures, ← a.before.refusal-k.ensures, a.if-k-ne0.false)
 
-pub unit-at-spec : {M : Type 1} → statement M
-unit-at-spec = tie.close (tie.spec refusal-requires returns locate-requires returns-2)
+pub unit_at_spec : {M : Type 1} → statement M
+unit_at_spec = tie.close (tie.spec refusal-k-requires returns-then-k-ne0 locate-requires returns)

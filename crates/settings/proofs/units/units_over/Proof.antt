@@ -18,17 +18,17 @@ one_more side n p q =
     let e : n + (side - 1) ≡ n - 1 + side = omega arith in
     rw e (add-div_right (n - 1) p)
 
-sub-result : tie.Need-overflow-sub-result
-sub-result c = search rules
+overflow_sub-result : tie.Need-overflow_sub-result
+overflow_sub-result c = search rules
 
 exponent-requires : tie.Need-exponent-requires
 exponent-requires c κs = search rules
 
-shr-result : tie.Need-overflow-shr-result
-shr-result c = let l = below (exponent c.before.args.side) 7 (omega arith) in omega arith
+overflow_shr-result : tie.Need-overflow_shr-result
+overflow_shr-result c = let l = below (exponent c.before.args.side) 7 (omega arith) in omega arith
 
-add-result : tie.Need-overflow-add-result
-add-result c =
+overflow_add-result : tie.Need-overflow_add-result
+overflow_add-result c =
     let l = div-le_self (c.before.args.n - 1) (2 ^ exponent c.before.args.side) in
     rw c.exponent.ensures (omega arith)
 
@@ -38,5 +38,5 @@ returns c =
     let some : 0 < a.side = omega (arith, pow_pos (exponent a.side)) in
     rw (c.exponent.ensures, ← c.before.requires.0, one_more a.side a.n some c.before.requires.2)
 
-pub units-over-spec : {M : Type 1} → statement M
-units-over-spec = tie.close (tie.spec sub-result exponent-requires shr-result add-result returns)
+pub units_over_spec : {M : Type 1} → statement M
+units_over_spec = tie.close (tie.spec overflow_sub-result exponent-requires overflow_shr-result overflow_add-result returns)
