@@ -31,4 +31,4 @@ module _ {g : Coding} {first : ℕ} {next : ℕ → ℕ} {Due : ℕ → g.Sessio
   pub accepted_units : {a : ℕ} {t : g.Session} → Due a t → (calls : List g.Call) → ReadFrom a (accepted_in g t calls)
   unfolding lists.accepted_in
   accepted_units d [] = no_units
-  accepted_units {t = t} d (c ∷ calls) = one_call d c _ (λ b e. accepted_units e calls) (g.takes t c) refl
+  accepted_units {a = a} {t = t} d (c ∷ calls) = one_call d c _ (λ b e. accepted_units {a = b} e calls) (g.takes t c) refl

@@ -13,6 +13,7 @@ use Rattle.unit.specs.Answers.{number_of}
 use Rattle.unit.specs.Exactly.{OneOf, AcceptedOr}
 
 pub one_of_more : (n : ℕ) (first rest : List ℕ) → OneOf n first → OneOf n (first ++ rest)
+one_of_more n [] rest o = elim o [ ]
 one_of_more n (m ∷ first) rest (inl e) = inl e
 one_of_more n (m ∷ first) rest (inr o) = inr (one_of_more n first rest o)
 
@@ -26,6 +27,7 @@ lacks m [] = true
 lacks m (n ∷ ns) = not (eqb n m) && lacks m ns
 
 pub not_listed : (m : ℕ) (numbers : List ℕ) → lacks m numbers ≡ true → ¬ OneOf m numbers
+not_listed m [] p o = elim o [ ]
 not_listed m (n ∷ ns) p (inl e) = let f : not (eqb n m) ≡ false = ap not (eq-eqb n m (sym e)) in clash (and_left (not (eqb n m)) _ p) f
 not_listed m (n ∷ ns) p (inr o) = not_listed m ns (and_right (not (eqb n m)) _ p) o
 
@@ -35,6 +37,7 @@ apart [] others = true
 apart (n ∷ ns) others = lacks n others && apart ns others
 
 pub not-both : (n : ℕ) (numbers others : List ℕ) → apart numbers others ≡ true → OneOf n numbers → ¬ OneOf n others
+not-both n [] others p i o = elim i [ ]
 not-both n (m ∷ ms) others p (inl e) o = not_listed m others (and_left (lacks m others) _ p) (subst (λ n. OneOf n others) e o)
 not-both n (m ∷ ms) others p (inr i) o = not-both n ms others (and_right (lacks m others) _ p) i o
 

@@ -52,7 +52,7 @@ module _ {us : Units} (law : Sound us) (a : ℕ) (h : refusal_in us a ≡ 0) whe
     only m e (inr f) = let g = unit_read flags buffer ∙ f.3 buffer in never (cc)
 
     numbers : FlagsRead us.kind (root_in us a) flags → AcceptedOr (11 ∷ 12 ∷ 13 ∷ 14 ∷ []) (read_in us a flags buffer).answer
-    numbers (inl t) = rw (← t.1, reads t.0 buffer) (deliver_or 14 _ _ buffer _ (inr (inr (inr (inl refl)))))
+    numbers (inl t) = rw (← t.1, reads t.0 buffer) (deliver_or 14 _ _ buffer (11 ∷ 12 ∷ 13 ∷ 14 ∷ []) (inr (inr (inr (inl refl)))))
     numbers (inr f) = rw (unit_read flags buffer, f.3 buffer) (fault_number f.2)
 
   pub reads_exactly : ReadsExactly us a

@@ -66,3 +66,4 @@ module _ {us : Units} (law : Sound us) (a : ℕ) where
       ten : ¬ OneOf 10 (14 ∷ 17 ∷ [])
       ten (inl e) = omega arith
       ten (inr (inl e)) = omega arith
+      ten (inr (inr o)) = elim o [ ]

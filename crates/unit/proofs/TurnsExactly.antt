@@ -85,7 +85,7 @@ module _ {us : Units} (law : Sound us) (a : ℕ) (h : refusal_in us a ≡ 0) whe
     where
       go : Tested us a bytes → AcceptedOr (15 ∷ 27 ∷ 28 ∷ 16 ∷ 17 ∷ []) (write_in us a bytes buffer).answer
       go (faulty {number = number} f w) = rw (write_stopped law a bytes buffer _ _ w) (one_of_more number (15 ∷ no_tree_numbers) (17 ∷ []) (rows_number f))
-      go (passed p) = rw (write_given law a bytes buffer p.gives_flags) (deliver_or 17 _ _ buffer _ (one_of_later 17 (15 ∷ no_tree_numbers) (17 ∷ []) (inl refl)))
+      go (passed p) = rw (write_given law a bytes buffer p.gives_flags) (deliver_or 17 _ _ buffer (15 ∷ 27 ∷ 28 ∷ 16 ∷ 17 ∷ []) (one_of_later 17 (15 ∷ no_tree_numbers) (17 ∷ []) (inl refl)))
 
   pub turns_exactly : TurnsExactly us a
   turns_exactly = record {

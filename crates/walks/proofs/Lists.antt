@@ -30,6 +30,7 @@ module _ {A S : Type 0} (way : Way A S) (stands : Kind → Node → Word → Typ
   none_walked u c b f = record { done = λ k ns s ready. go k ns s ready.placed ready.stand }
     where
       go : (k : Kind) (ns : List Node) (s : S) → way.at (place_of c) s → AllStand (stands k) ns [] → Done way (walk_over way k ns s) c b c b
+      go k (_ ∷ _) s e stand = elim stand [ ]
       go k [] s e no_more = record { said = (omega arith, e); long = refl; given = let i : given_of c + 0 ≡ given_of c = omega arith in rw (f, i, append-nil) }
 
   module _ (lawful : Lawful way) (placed : (k : Kind) (n : Node) (w : Word) → stands k n w → Placed k.limits n) where
@@ -63,6 +64,7 @@ module _ {A S : Type 0} (way : Way A S) (stands : Kind → Node → Word → Typ
       asked_first a = go a.nodes a.ready a.ready.stand
         where
           go : (ns : List Node) → Ready way stands a.kind ns a.state u c (w ∷ ws) → AllStand (stands a.kind) ns (w ∷ ws) → Asked way stands u c (w ∷ [])
+          go [] ready stand = elim stand [ ]
           go (n ∷ ns) ready (one_more s ss) = record { kind = a.kind; nodes = n ∷ []; state = a.state; ready = one_ready ready s ss }
 
       module _ {b : List ℕ} {r : ℕ} {m : List ℕ} (first : Walked way stands u c (w ∷ []) b r m) where
@@ -71,12 +73,14 @@ module _ {A S : Type 0} (way : Way A S) (stands : Kind → Node → Word → Typ
         walked_long a = go a.nodes a.ready a.ready.stand
           where
             go : (ns : List Node) → Ready way stands a.kind ns a.state u c (w ∷ ws) → AllStand (stands a.kind) ns (w ∷ ws) → length m ≡ length b
+            go [] ready stand = elim stand [ ]
             go (n ∷ ns) ready (one_more s ss) = (one_done ready s ss b r m first).long
 
         pub walked_stop : 9223372036854775808 ≤ r → Walked way stands u c (w ∷ ws) b r m
         walked_stop h = record { done = λ k ns s ready. go k ns s ready ready.stand }
           where
             go : (k : Kind) (ns : List Node) (s : S) → Ready way stands k ns s u c (w ∷ ws) → AllStand (stands k) ns (w ∷ ws) → Done way (walk_over way k ns s) c b r m
+            go k [] s ready stand = elim stand [ ]
             go k (n ∷ ns) s ready (one_more st ss) = stopped_one ready st ss b r m first h
 
         -- the walk goes on from the number that the code has taken out of the answer
@@ -85,10 +89,12 @@ module _ {A S : Type 0} (way : Way A S) (stands : Kind → Node → Word → Typ
           asked_rest a = rw on.0 (go a.nodes a.ready a.ready.stand)
             where
               go : (ns : List Node) → Ready way stands a.kind ns a.state u c (w ∷ ws) → AllStand (stands a.kind) ns (w ∷ ws) → Asked way stands u r ws
+              go [] ready stand = elim stand [ ]
               go (n ∷ ns) ready (one_more s ss) = record { kind = a.kind; nodes = ns; state = (end ready s ss b r m first on.1).0; ready = rest_ready ready s ss b r m first on.1 }
 
           pub walked_rest : {z : List ℕ} {r' : ℕ} → Walked way stands u x ws m r' z → Walked way stands u c (w ∷ ws) b r' z
           walked_rest {z} {r'} rest = record { done = λ k ns s ready. go k ns s ready ready.stand }
             where
               go : (k : Kind) (ns : List Node) (s : S) → Ready way stands k ns s u c (w ∷ ws) → AllStand (stands k) ns (w ∷ ws) → Done way (walk_over way k ns s) c b r' z
+              go k [] s ready stand = elim stand [ ]
               go k (n ∷ ns) s ready (one_more st ss) = rest_one ready st ss b r m first on.1 z r' (subst (λ (y : ℕ). Walked way stands u y ws m r' z) on.0 rest)

@@ -9,63 +9,56 @@ use Rattle.h265settings.proofs.Passed.{ctu_rule, smallest_rule, smallest_side, s
 use Rattle.h265settings.proofs.check.refusal.Statement.{statement}
 use Rattle.h265settings.proofs.check.refusal.Tie as tie
 
-returns : tie.Need-returns
+returns-then-not-s : tie.Need-returns-then-not-s
 unfolding settings_refusal
-returns c = rw c.if1.true
+returns-then-not-s c = rw c.if-not-s.true-raw
 
-returns-2 : tie.Need-returns-2
+returns-then-not-side_from : tie.Need-returns-then-not-side_from
 unfolding settings_refusal
-returns-2 c = let b = c.before in rw (b.before.if1.false, ← b.side-from.ensures, c.if2.true)
+returns-then-not-side_from c = rw (c.if-not-s.false-raw, ← c.side_from.ensures, c.if-not-side_from.true-raw)
 
 -- where 34 and 35 pass, the smallest side is a power of two
-small : (c : tie.Else2) → Side 8 64 c.before.before.before.before.before.before.args.s.smallest
+small : (c : tie.Else-not-side_from) → Side 8 64 c.args.s.smallest
 small c =
-    let b = c.before in
-    let s = b.before.before.before.before.before.args.s in
-    let u = (ctu_rule s).kept b.before.if1.false in
-    smallest_side u ((smallest_rule s u).kept (rw (← b.side-from.ensures) c.if2.false))
+    let s = c.args.s in
+    let u = (ctu_rule s).kept c.if-not-s.false-raw in
+    smallest_side u ((smallest_rule s u).kept (rw (← c.side_from.ensures) c.if-not-side_from.false-raw))
 
-bad-length-requires : tie.Need-bad-length-requires
-bad-length-requires c κs = (small c).is
+bad_length-requires : tie.Need-bad_length-requires
+bad_length-requires c κs = (small c).is
 
-returns-3 : tie.Need-returns-3
+returns-then-bad_length : tie.Need-returns-then-bad_length
 unfolding settings_refusal
-returns-3 c =
-    let w = c.before in
-    let e = w.before in
-    let b = e.before in
-    rw (b.before.if1.false, ← b.side-from.ensures, e.if2.false, ← same_length (small e) b.before.before.before.before.before.args.s.width, ← w.bad-length.ensures, c.if3.true)
+returns-then-bad_length c =
+    rw (c.if-not-s.false-raw, ← c.side_from.ensures, c.if-not-side_from.false-raw, ← same_length (small c.before.before) c.args.s.width, ← c.bad_length.ensures, c.if-bad_length.true)
 
-bad-length-requires-2 : tie.Need-bad-length-requires-2
-bad-length-requires-2 c κs = (small c.before.before).is
+bad_length-requires-2 : tie.Need-bad_length-requires-2
+bad_length-requires-2 c κs = (small c.before.before).is
 
 -- where 7 passes too, 8 decides
-last : (c : tie.After-bad-length2) {b : Bool} → c.bad-length2.result ≡ b
-    → ◌≡◌ {A = ℕ} (cond b 8 0) (settings_refusal c.before.before.before.before.before.before.before.before.before.args.s)
+last : (c : tie.After-bad_length-2) {b : Bool} → c.bad_length-2.result ≡ b
+    → ◌≡◌ {A = ℕ} (cond b 8 0) (settings_refusal c.args.s)
 unfolding settings_refusal
 last c h =
-    let w = c.before.before in
-    let e = w.before in
-    let b = e.before in
-    rw (b.before.if1.false, ← b.side-from.ensures, e.if2.false)
-    (rw (← same_length (small e) b.before.before.before.before.before.args.s.width, ← w.bad-length.ensures, c.before.if3.false)
-    (rw (← same_length (small e) b.before.before.before.before.before.args.s.height, ← c.bad-length2.ensures, h)))
+    rw (c.if-not-s.false-raw, ← c.side_from.ensures, c.if-not-side_from.false-raw)
+    (rw (← same_length (small c.before.before.before) c.args.s.width, ← c.bad_length.ensures, c.if-bad_length.false)
+    (rw (← same_length (small c.before.before.before) c.args.s.height, ← c.bad_length-2.ensures, h)))
 
-returns-4 : tie.Need-returns-4
-returns-4 c = last c.before c.if4.true
+returns-then-bad_length-2 : tie.Need-returns-then-bad_length-2
+returns-then-bad_length-2 c = last c.before c.if-bad_length-2.true
 
-returns-5 : tie.Need-returns-5
-returns-5 c = last c.before c.if4.false
+returns : tie.Need-returns
+returns c = last c.before c.if-bad_length-2.false
 
-pub refusal-spec : {M : Type 1} → statement M
-refusal-spec =
+pub refusal_spec : {M : Type 1} → statement M
+refusal_spec =
     tie.close
     (tie.spec
-    returns
+    returns-then-not-s
     (λ c κs. search rules)
-    returns-2
-    bad-length-requires
-    returns-3
-    bad-length-requires-2
-    returns-4
-    returns-5)
+    returns-then-not-side_from
+    bad_length-requires
+    returns-then-bad_length
+    bad_length-requires-2
+    returns-then-bad_length-2
+    returns)

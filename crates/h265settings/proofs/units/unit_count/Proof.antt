@@ -8,21 +8,20 @@ use Rattle.h265settings.proofs.Sound.{gridded}
 use Rattle.h265settings.proofs.units.unit_count.Statement.{statement}
 use Rattle.h265settings.proofs.units.unit_count.Tie as tie
 
-refusal-requires : tie.Need-refusal-requires
-refusal-requires c κs = search rules
+refusal-k-requires : tie.Need-refusal-k-requires
+refusal-k-requires c κs = search rules
+
+returns-then-k-ne0 : tie.Need-returns-then-k-ne0
+unfolding counted_by
+returns-then-k-ne0 c = rw (← c.refusal-k.ensures, ne_eqb _ 0 c.if-k-ne0.true)
+
+count_in-requires : tie.Need-count_in-requires
+count_in-requires c κs = gridded (passed c.args.s (sym c.refusal-k.ensures ∙ c.if-k-ne0.false))
 
 returns : tie.Need-returns
 unfolding counted_by
-returns c = rw (← c.before.refusal.ensures, ne_eqb _ 0 c.if1.true)
+returns c =
+    rw (c.count_in.ensures, ← c.refusal-k.ensures, eq-eqb _ 0 c.if-k-ne0.false)
 
-count-in-requires : tie.Need-count-in-requires
-count-in-requires c κs = gridded (passed c.before.before.args.s (sym c.before.refusal.ensures ∙ c.if1.false))
-
-returns-2 : tie.Need-returns-2
-unfolding counted_by
-returns-2 c =
-    let a = c.before in
-    rw (c.count_in_lem.ensures, ← a.before.refusal.ensures, eq-eqb _ 0 a.if1.false)
-
-pub unit-count-spec : {M : Type 1} → statement M
-unit-count-spec = tie.close (tie.spec refusal-requires returns count-in-requires returns-2)
+pub unit_count_spec : {M : Type 1} → statement M
+unit_count_spec = tie.close (tie.spec refusal-k-requires returns-then-k-ne0 count_in-requires returns)
