@@ -5,21 +5,21 @@ use Rattle.cells.proofs.at_corner.Statement.{statement}
 use Rattle.cells.proofs.at_corner.Tie as tie
 
 -- src/lib.rt:24:9
-corner-cell-requires : tie.Need-corner-cell-requires
-corner-cell-requires c κs = search rules
+corner_cell-requires : tie.Need-corner_cell-requires
+corner_cell-requires c κs = search rules
 
 -- src/lib.rt:24:5
-mul-result : tie.Need-overflow-mul-result
-mul-result c = search rules
+offset_bounds-map-corner_cell : tie.Need-offset_bounds-map-corner_cell
+offset_bounds-map-corner_cell c = search rules
 
 -- src/lib.rt:24:5
-element-copy-out-result : tie.Need-element-copy-out-result
-element-copy-out-result c = search rules
+bounds-map-corner_cell : tie.Need-bounds-map-corner_cell
+bounds-map-corner_cell c = search rules
 
 -- src/lib.rt:21:1
 returns : tie.Need-returns
-returns c = ap (λ i. get_or c.before.before.args.map.now i 0) c.before.corner-cell.ensures.0
+returns c = ap (λ i. get_or c.args.map.now i 0) c.corner_cell.ensures.0
 
-pub at-corner-spec : {M : Type 1} → statement M
-at-corner-spec =
-    tie.close (tie.spec corner-cell-requires mul-result element-copy-out-result returns)
+pub at_corner_spec : {M : Type 1} → statement M
+at_corner_spec =
+    tie.close (tie.spec corner_cell-requires offset_bounds-map-corner_cell bounds-map-corner_cell returns)

@@ -11,26 +11,26 @@ top-requires : tie.Need-top-requires
 top-requires c κs = search rules
 
 -- src/lib.rt:17:6
-mul-result : tie.Need-overflow-mul-result
-mul-result c = search rules
+overflow_mul-result : tie.Need-overflow_mul-result
+overflow_mul-result c = search rules
 
 -- src/lib.rt:17:38
 left-requires : tie.Need-left-requires
 left-requires c κs = search rules
 
 -- src/lib.rt:17:6
-add-result : tie.Need-overflow-add-result
-add-result c = search rules
+overflow_add-result : tie.Need-overflow_add-result
+overflow_add-result c = search rules
 
 -- src/lib.rt:17:5
-cast-result : tie.Need-overflow-cast-result
-cast-result c = search rules
+overflow_cast-result : tie.Need-overflow_cast-result
+overflow_cast-result c = search rules
 
 -- src/lib.rt:14:1
 returns : tie.Need-returns
 unfolding node_in
-returns c = (ap₂ (λ y x. y / 4 % 32 * 32 + x / 4 % 32) c.before.top.ensures.0 c.left.ensures.0, omega arith)
+returns c = (ap₂ (λ y x. y / 4 % 32 * 32 + x / 4 % 32) c.top.ensures.0 c.left.ensures.0, omega arith)
 
-pub corner-cell-spec : {M : Type 1} → statement M
-corner-cell-spec =
-    tie.close (tie.spec top-requires mul-result left-requires add-result cast-result returns)
+pub corner_cell_spec : {M : Type 1} → statement M
+corner_cell_spec =
+    tie.close (tie.spec top-requires overflow_mul-result left-requires overflow_add-result overflow_cast-result returns)

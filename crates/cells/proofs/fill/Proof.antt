@@ -10,95 +10,83 @@ use Rattle.cells.proofs.Lines.{lines_from, lines_first, lines_next, lines_last, 
 use Rattle.cells.proofs.fill.Statement.{statement}
 use Rattle.cells.proofs.fill.Tie as tie
 
-abbrev invariant-loop : tie.invariant-loop
-invariant-loop map₀ row wide high corner k₀ map k = (k ≤ high) × (length map ≡ 1024) × (lines_from corner wide high row k map ≡ put_lines high wide row corner map₀)
+abbrev invariant-loop-k : tie.invariant-loop-k
+invariant-loop-k map₀ row wide high corner k₀ map k = (k ≤ high) × (length map ≡ 1024) × (lines_from corner wide high row k map ≡ put_lines high wide row corner map₀)
 
-abbrev decreases-loop : tie.decreases-loop
-decreases-loop map₀ row wide high corner k₀ map k = high - k
+abbrev decreases-loop-k : tie.decreases-loop-k
+decreases-loop-k map₀ row wide high corner k₀ map k = high - k
 
-width-requires : tie.Need-width-requires invariant-loop decreases-loop
+width-requires : tie.Need-width-requires invariant-loop-k decreases-loop-k
 width-requires c κs = search rules
 
-cast-wide : tie.Need-overflow-cast-wide invariant-loop decreases-loop
-cast-wide c = omega arith
+overflow_cast-wide : tie.Need-overflow_cast-wide invariant-loop-k decreases-loop-k
+overflow_cast-wide c = omega arith
 
-height-requires : tie.Need-height-requires invariant-loop decreases-loop
+height-requires : tie.Need-height-requires invariant-loop-k decreases-loop-k
 height-requires c κs = search rules
 
-cast-high : tie.Need-overflow-cast-high invariant-loop decreases-loop
-cast-high c = omega arith
+overflow_cast-high : tie.Need-overflow_cast-high invariant-loop-k decreases-loop-k
+overflow_cast-high c = omega arith
 
-corner-cell-requires : tie.Need-corner-cell-requires invariant-loop decreases-loop
-corner-cell-requires c κs = search rules
+corner_cell-corner-requires : tie.Need-corner_cell-corner-requires invariant-loop-k decreases-loop-k
+corner_cell-corner-requires c κs = search rules
 
-loop-holds : tie.Need-loop-init invariant-loop decreases-loop
-loop-holds c =
-    let s = c.before.before.before in
-    (zero-le, s.requires.0, lines_first c.corner-cell.result _ _ s.args.row s.args.map.now)
+loop-k-init : tie.Need-loop-k-init invariant-loop-k decreases-loop-k
+loop-k-init c =
+    (zero-le, c.requires.0, lines_first c.corner_cell-corner.result _ _ c.args.row c.args.map.now)
 
-mul-fill-line : tie.Need-overflow-mul-fill-line invariant-loop decreases-loop
-mul-fill-line c = omega arith
+overflow_mul-k : tie.Need-overflow_mul-k invariant-loop-k decreases-loop-k
+overflow_mul-k c = omega arith
 
-add-fill-line : tie.Need-overflow-add-fill-line invariant-loop decreases-loop
-add-fill-line c = omega arith
+overflow_add-corner : tie.Need-overflow_add-corner invariant-loop-k decreases-loop-k
+overflow_add-corner c = omega arith
 
-fill-line-requires : tie.Need-fill-line-requires invariant-loop decreases-loop
+fill_line-requires : tie.Need-fill_line-requires invariant-loop-k decreases-loop-k
 unfolding node_in
-fill-line-requires c κs =
-    let l = c.before.before in
-    let cell = l.before in
-    let h = cell.before in
-    let w = h.before in
-    (l.loop.invariant.1, line_room w.before.requires.1 l.loop.k cell.corner-cell.ensures.0 (ap (λ m. m / 4) w.width.ensures.0) (ap (λ m. m / 4) h.height.ensures.0) c.before.loop-test.true)
+fill_line-requires c κs =
+    (c.loop-k.invariant.1, line_room c.requires.1 c.loop-k.k c.corner_cell-corner.ensures.0 (ap (λ m. m / 4) c.width.ensures.0) (ap (λ m. m / 4) c.height.ensures.0) c.loop-k-test.true)
 
-add-k : tie.Need-overflow-add-k invariant-loop decreases-loop
-add-k c = omega arith
+overflow_add-k : tie.Need-overflow_add-k invariant-loop-k decreases-loop-k
+overflow_add-k c = omega arith
 
-loop-less : tie.Need-loop-smaller invariant-loop decreases-loop
-loop-less c = omega arith
+loop-k-smaller : tie.Need-loop-k-smaller invariant-loop-k decreases-loop-k
+loop-k-smaller c = omega arith
 
-loop-again : tie.Need-loop-preserved invariant-loop decreases-loop
-loop-again c =
-    let l = c.before.before.before in
-    let corner = l.before.corner-cell.result in
-    let high = l.before.before.height.result / 4 in
-    let w = l.before.before.before in
-    let wide = w.width.result / 4 in
-    let row = w.before.args.row in
-    let k = l.loop.k in
-    let i = l.loop.invariant in (
+loop-k-preserved : tie.Need-loop-k-preserved invariant-loop-k decreases-loop-k
+loop-k-preserved c =
+    let corner = c.corner_cell-corner.result in
+    let high = c.height.result / 4 in
+    let wide = c.width.result / 4 in
+    let row = c.args.row in
+    let k = c.loop-k.k in
+    let i = c.loop-k.invariant in (
       omega arith,
-      ap length c.fill-line.ensures ∙ length-sets l.loop.map (corner + k * 32) (replicate wide row) ∙ i.1,
-      rw c.fill-line.ensures (lines_next corner wide high row l.loop.map k c.before.before.loop-test.true ∙ i.2),
+      ap length c.fill_line.ensures ∙ length-sets c.loop-k.map (corner + k * 32) (replicate wide row) ∙ i.1,
+      rw c.fill_line.ensures (lines_next corner wide high row c.loop-k.map k c.loop-k-test.true ∙ i.2),
     )
 
-returns : tie.Need-returns invariant-loop decreases-loop
+returns : tie.Need-returns invariant-loop-k decreases-loop-k
 unfolding node_in filled
 returns c =
-    let l = c.before in
-    let cell = l.before in
-    let h = cell.before in
-    let w = h.before in
-    let s = w.before in
-    let done = lines_last cell.corner-cell.result (w.width.result / 4) (h.height.result / 4) s.args.row l.loop.map l.loop.k (omega arith) in
-    sym done ∙ l.loop.invariant.2 ∙ rw (w.width.ensures.0, h.height.ensures.0, cell.corner-cell.ensures.0)
+    let done = lines_last c.corner_cell-corner.result (c.width.result / 4) (c.height.result / 4) c.args.row c.loop-k.map c.loop-k.k (omega arith) in
+    sym done ∙ c.loop-k.invariant.2 ∙ rw (c.width.ensures.0, c.height.ensures.0, c.corner_cell-corner.ensures.0)
 
 pub fill_spec : {M : Type 1} → statement M
 fill_spec =
     tie.close
     (tie.spec
-    invariant-loop
-    decreases-loop
+    invariant-loop-k
+    decreases-loop-k
     width-requires
-    cast-wide
+    overflow_cast-wide
     height-requires
-    cast-high
-    corner-cell-requires
-    loop-holds
-    mul-fill-line
-    add-fill-line
-    fill-line-requires
-    add-k
-    loop-less
-    loop-again
+    overflow_cast-high
+    corner_cell-corner-requires
+    loop-k-init
+    overflow_mul-k
+    overflow_add-corner
+    fill_line-requires
+    overflow_add-k
+    loop-k-smaller
+    loop-k-preserved
     returns)

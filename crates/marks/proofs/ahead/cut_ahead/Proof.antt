@@ -8,26 +8,26 @@ use Rattle.marks.proofs.Found.{Shows, area_is, left_is, top_is, shows, cut_flat,
 use Rattle.marks.proofs.ahead.cut_ahead.Statement.{statement}
 use Rattle.marks.proofs.ahead.cut_ahead.Tie as tie
 
-area-most : (h : tie.After-height) → h.before.width.result * h.height.result ≤ 16384
-area-most h = mul-le-mul h.before.width.ensures.1 h.height.ensures.1
+area-most : (h : tie.After-height) → h.width.result * h.height.result ≤ 16384
+area-most h = mul-le-mul h.width.ensures.1 h.height.ensures.1
 
-mul-area : tie.Need-overflow-mul-area
-mul-area c = let p = area-most c in omega arith
+overflow_mul-area : tie.Need-overflow_mul-area
+overflow_mul-area c = let p = area-most c in omega arith
 
 -- its shares from the table, and the cells that they are
-two : (s : tie.After-share-of) → s.share-of.result ≡ 2
+two : (s : tie.After-share_of) → s.share_of.result ≡ 2
 unfolding share_table
-two s = s.share-of.ensures
+two s = s.share_of.ensures
 
-one : (s : tie.After-share-of2) → s.share-of2.result ≡ 1
+one : (s : tie.After-share_of-2) → s.share_of-2.result ≡ 1
 unfolding share_table
-one s = s.share-of2.ensures
+one s = s.share_of-2.ensures
 
-first-cells-requires : tie.Need-first-cells-requires
-first-cells-requires c κs = (area-most c.before, let e = two c in omega arith)
+first_cells-second-requires : tie.Need-first_cells-second-requires
+first_cells-second-requires c κs = (area-most c.before, let e = two c in omega arith)
 
-first-cells-requires-2 : tie.Need-first-cells-requires-2
-first-cells-requires-2 c κs = (area-most c.before.before.before.before.before.before.before.before.before, let e = one c in omega arith)
+first_cells-middle-requires : tie.Need-first_cells-middle-requires
+first_cells-middle-requires c κs = (area-most c.before.before.before.before.before.before.before.before.before, let e = one c in omega arith)
 
 half-cells : (a : ℕ) {s r : ℕ} → s ≡ 2 → r ≡ a * s / 64 → r ≡ a / 32
 half-cells a e f = f ∙ ap (λ (i : ℕ). a * i / 64) e ∙ omega arith
@@ -36,53 +36,51 @@ quarter-cells : (a : ℕ) {s r : ℕ} → s ≡ 1 → r ≡ a * s / 64 → r ≡
 quarter-cells a e f = f ∙ ap (λ (i : ℕ). a * i / 64) e ∙ omega arith
 
 -- the row after half of its cells, and after a quarter
-half : (s : tie.After-starts) → let a = s.before.before.before.before.before.before.before.args in Shows a.marks.now a.row a.at ((node_in a.row).w * (node_in a.row).h / 32) s.starts.result
+half : (s : tie.After-starts-half) → let a = s.args in Shows a.marks.now a.row a.at ((node_in a.row).w * (node_in a.row).h / 32) s.starts-half.result
 half s =
     let w = s.before in
     let n = w.before in
     let h = n.before.before in
     let b = h.before.before in
-    let area = area_is b.before.args.row h.before.width.ensures.0 h.height.ensures.0 in
-    let count = half-cells (h.before.width.result * h.height.result) (two n.before) n.first-cells.ensures in
-    rw (← area, ← count) (shows b.before2.ensures area (omega arith) w.wrapping-add-u32.ensures s.starts.ensures)
+    let area = area_is b.args.row h.width.ensures.0 h.height.ensures.0 in
+    let count = half-cells (h.width.result * h.height.result) (two n.before) n.first_cells-second.ensures in
+    rw (← area, ← count) (shows b.before-base.ensures area (omega arith) w.wrapping_add_u32.ensures s.starts-half.ensures)
 
-quarter : (q : tie.After-starts2) → let a = q.before.before.before.before.before.before.before.before.before.before.before.before.before.before.before.args in Shows a.marks.now a.row a.at ((node_in a.row).w * (node_in a.row).h / 64) q.starts2.result
+quarter : (q : tie.After-starts-quarter) → let a = q.args in Shows a.marks.now a.row a.at ((node_in a.row).w * (node_in a.row).h / 64) q.starts-quarter.result
 quarter q =
     let n = q.before.before in
     let h = n.before.before.before.before.before.before.before.before.before.before in
     let b = h.before.before in
-    let area = area_is b.before.args.row h.before.width.ensures.0 h.height.ensures.0 in
-    let count = quarter-cells (h.before.width.result * h.height.result) (one n.before) n.first-cells2.ensures in
-    rw (← area, ← count) (shows b.before2.ensures area (omega arith) q.before.wrapping-add-u322.ensures q.starts2.ensures)
+    let area = area_is b.args.row h.width.ensures.0 h.height.ensures.0 in
+    let count = quarter-cells (h.width.result * h.height.result) (one n.before) n.first_cells-middle.ensures in
+    rw (← area, ← count) (shows b.before-base.ensures area (omega arith) q.wrapping_add_u32-2.ensures q.starts-quarter.ensures)
 
-returns : tie.Need-returns
-returns c = let l = c.before in cut_flat (half l.before) (c.if1.true ∙ left_is _ l.left.ensures.0)
+returns-then-half-left : tie.Need-returns-then-half-left
+returns-then-half-left c = cut_flat (half c.before.before) (c.if-half-left.true ∙ left_is _ c.left.ensures.0)
 
-returns-2 : tie.Need-returns-2
-returns-2 c =
-    let t = c.before in
-    let l = t.before.before in
-    cut_steep (half l.before) (λ i. t.before.if1.false (i ∙ sym (left_is _ l.left.ensures.0))) (c.if2.true ∙ top_is _ t.top.ensures.0)
+returns-then-half-top : tie.Need-returns-then-half-top
+returns-then-half-top c =
+    cut_steep (half c.before.before.before.before) (λ i. c.if-half-left.false (i ∙ sym (left_is _ c.left.ensures.0))) (c.if-half-top.true ∙ top_is _ c.top.ensures.0)
 
 -- in three parts
-third : (m : tie.After-left2) {b : Bool} → eqb (m.before.starts2.result % 65536) m.left2.result ≡ b → let a = m.before.before.before.before.before.before.before.before.before.before.before.before.before.before.before.before.args in Cut a.marks.now a.row a.at (cond b (Ternary Horizontal) (Ternary Vertical))
+third : (m : tie.After-left-2) {b : Bool} → eqb (m.starts-quarter.result % 65536) m.left-2.result ≡ b → let a = m.args in Cut a.marks.now a.row a.at (cond b (Ternary Horizontal) (Ternary Vertical))
 third m h =
     let q = m.before in
     let f = q.before.before.before.before in
     let t = f.before in
     let l = t.before.before in
-    cut_in_three (half l.before) (λ i. t.before.if1.false (i ∙ sym (left_is _ l.left.ensures.0))) (λ i. f.if2.false (i ∙ sym (top_is _ t.top.ensures.0))) (quarter q)
-    (ap (eqb (q.starts2.result % 65536)) (sym (left_is _ m.left2.ensures.0)) ∙ h)
+    cut_in_three (half l.before) (λ i. t.if-half-left.false (i ∙ sym (left_is _ l.left.ensures.0))) (λ i. f.if-half-top.false (i ∙ sym (top_is _ t.top.ensures.0))) (quarter q)
+    (ap (eqb (q.starts-quarter.result % 65536)) (sym (left_is _ m.left-2.ensures.0)) ∙ h)
 
-returns-3 : tie.Need-returns-3
-returns-3 c = third c.before (eq-eqb _ _ c.if3.true)
+returns-then-quarter-left : tie.Need-returns-then-quarter-left
+returns-then-quarter-left c = third c.before (eq-eqb _ _ c.if-quarter-left.true)
 
-returns-4 : tie.Need-returns-4
-returns-4 c = third c.before (ne_eqb _ _ c.if3.false)
+returns : tie.Need-returns
+returns c = third c.before (ne_eqb _ _ c.if-quarter-left.false)
 
-pub cut-ahead-spec : {M : Type 1} → statement M
-cut-ahead-spec =
+pub cut_ahead_spec : {M : Type 1} → statement M
+cut_ahead_spec =
     tie.close
-    (tie.spec (λ c κs. search rules) (λ c κs. search rules) (λ c κs. search rules) mul-area (λ c κs. search rules) first-cells-requires (λ c κs. search rules) (λ c κs. search rules)
-    (λ c κs. search rules) returns (λ c κs. search rules) returns-2 (λ c κs. search rules) first-cells-requires-2 (λ c κs. search rules) (λ c κs. search rules)
-    (λ c κs. search rules) returns-3 returns-4)
+    (tie.spec (λ c κs. search rules) (λ c κs. search rules) (λ c κs. search rules) overflow_mul-area (λ c κs. search rules) first_cells-second-requires (λ c κs. search rules) (λ c κs. search rules)
+    (λ c κs. search rules) returns-then-half-left (λ c κs. search rules) returns-then-half-top (λ c κs. search rules) first_cells-middle-requires (λ c κs. search rules) (λ c κs. search rules)
+    (λ c κs. search rules) returns-then-quarter-left returns)

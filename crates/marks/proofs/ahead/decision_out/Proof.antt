@@ -4,13 +4,13 @@ use Rattle.marks.proofs.Found.{out_quad, out_cut}
 use Rattle.marks.proofs.ahead.decision_out.Statement.{statement}
 use Rattle.marks.proofs.ahead.decision_out.Tie as tie
 
+returns-then-qt_depth : tie.Need-returns-then-qt_depth
+unfolding node_in
+returns-then-qt_depth c = let a = c.args in out_quad a.row a.next a.bottom (omega arith)
+
 returns : tie.Need-returns
 unfolding node_in
-returns c = let a = c.before.before.before.args in out_quad a.row a.next a.bottom (omega arith)
+returns c = let a = c.args in out_cut a.row a.next a.bottom (omega arith) c.flat_if.ensures
 
-returns-2 : tie.Need-returns-2
-unfolding node_in
-returns-2 c = let a = c.before.before.before.before.args in out_cut a.row a.next a.bottom (omega arith) c.flat-if.ensures
-
-pub decision-out-spec : {M : Type 1} → statement M
-decision-out-spec = tie.close (tie.spec (λ c κs. search rules) (λ c κs. search rules) returns (λ c κs. search rules) returns-2)
+pub decision_out_spec : {M : Type 1} → statement M
+decision_out_spec = tie.close (tie.spec (λ c κs. search rules) (λ c κs. search rules) returns-then-qt_depth (λ c κs. search rules) returns)

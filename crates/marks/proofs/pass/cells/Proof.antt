@@ -6,5 +6,5 @@ use Rattle.marks.proofs.pass.cells.Tie as tie
 returns : tie.Need-returns
 returns c = shifted _ (omega arith)
 
-pub cells-spec : {M : Type 1} → statement M
-cells-spec = tie.close (tie.spec (λ c. search rules) (λ c. search rules) (λ c. search rules) returns)
+pub cells_spec : {M : Type 1} → statement M
+cells_spec = tie.close (tie.spec (λ c. search rules) (λ c. search rules) (λ c. search rules) returns)

@@ -6,14 +6,12 @@ use Rattle.marks.proofs.pass.mark_tree.Tie as tie
 flat : (m : ℕ) → ltb 0 m ≡ false → m ≡ 0
 flat m h = let l = ltb-false 0 m h in omega arith
 
+returns-then-not-may_cut : tie.Need-returns-then-not-may_cut
+returns-then-not-may_cut c =
+    record { whole = c.requires.0; marked = λ cuts. absurd (cuts (flat _ (tested_not c.may_cut.ensures c.if-not-may_cut.true-raw))) }
+
 returns : tie.Need-returns
-returns c =
-    let mc = c.before in
-    let st = mc.before.before in
-    record { whole = st.requires.0; marked = λ cuts. absurd (cuts (flat _ (tested_not mc.may-cut.ensures c.if1.true))) }
+returns c = record { whole = c.requires.0; marked = λ cuts. c.mark.ensures }
 
-returns-2 : tie.Need-returns-2
-returns-2 c = let st = c.before.before.before.before.before in record { whole = st.requires.0; marked = λ cuts. c.mark.ensures }
-
-pub mark-tree-spec : {M : Type 1} → statement M
-mark-tree-spec = tie.close (tie.spec (λ c κs. search rules) returns (λ c κs. search rules) returns-2)
+pub mark_tree_spec : {M : Type 1} → statement M
+mark_tree_spec = tie.close (tie.spec (λ c κs. search rules) returns-then-not-may_cut (λ c κs. search rules) returns)

@@ -6,7 +6,7 @@ use Rattle.parser.proofs.inside.leaf.Statement.{statement}
 use Rattle.parser.proofs.inside.leaf.Tie as tie
 
 returns : tie.Need-returns
-returns c = (c.one_more.ensures, ap (λ (i : ℕ). set c.before.before.args.rows.now i c.before.before.args.row) c.before.count.ensures.0)
+returns c = (c.one_more.ensures, ap (λ (i : ℕ). set c.args.rows.now i c.args.row) c.count.ensures.0)
 
-pub leaf-spec : {M : Type 1} → statement M
-leaf-spec = tie.close (tie.spec (λ c κs. search rules) (λ c. search rules) (λ c. search rules) (λ c κs. search rules) returns)
+pub leaf_spec : {M : Type 1} → statement M
+leaf_spec = tie.close (tie.spec (λ c κs. search rules) (λ c. search rules) (λ c. search rules) (λ c κs. search rules) returns)
