@@ -5,25 +5,18 @@ use borrow.Author.Rules.{rules}
 use Rattle.reader.proofs.read_all.Statement.{statement}
 use Rattle.reader.proofs.read_all.Tie as tie
 
-root-walk-requires : tie.Need-root-walk-requires
-root-walk-requires c κs =
-    let st = c.before.before.before in
-    let some = st.requires.0 in
-    (some, root_room some.given _ (omega arith), st.requires.1, omega arith)
+root_walk-answer-requires : tie.Need-root_walk-answer-requires
+root_walk-answer-requires c κs =
+    let some = c.requires.0 in
+    (some, root_room some.given _ (omega arith), c.requires.1, omega arith)
 
-all-rows-requires : tie.Need-all-rows-requires
-all-rows-requires c κs =
-    let wa = c.before.before in
-    let st = wa.before.before.before.before in
-    let some = st.requires.0 in
-    root_count some.given.rooted st.args.flags.now (wa.root-walk.ensures some.kind some.root some.given)
+all_rows-requires : tie.Need-all_rows-requires
+all_rows-requires c κs =
+    root_count c.requires.0.given.rooted c.args.flags.now (c.root_walk-answer.ensures c.requires.0.kind c.requires.0.root c.requires.0.given)
 
 returns : tie.Need-returns
 returns c k root g =
-    let al = c.before.before in
-    let wa = al.before.before.before in
-    let st = wa.before.before.before.before in
-    root_delivered g.rooted st.args.flags.now (wa.root-walk.ensures k root g) (omega arith) st.args.rows.now al.all_rows.ensures
+    root_delivered g.rooted c.args.flags.now (c.root_walk-answer.ensures k root g) (omega arith) c.args.rows.now c.all_rows.ensures
 
-pub read-all-spec : {M : Type 1} → statement M
-read-all-spec = tie.close (tie.spec root-walk-requires all-rows-requires (λ c. search rules) returns)
+pub read_all_spec : {M : Type 1} → statement M
+read_all_spec = tie.close (tie.spec root_walk-answer-requires all_rows-requires (λ c. search rules) returns)

@@ -6,15 +6,13 @@ use Rattle.walks.proofs.UnitRoots.{usable_checked}
 use Rattle.reader.proofs.read_unit.Statement.{statement}
 use Rattle.reader.proofs.read_unit.Tie as tie
 
-read-checked-requires : tie.Need-read-checked-requires
-read-checked-requires c κs =
-    let re = c.before in
-    usable_checked (λ e. usable (passed re.before.before.before.args.s (sym re.refusal.ensures ∙ e)))
+read_checked-requires : tie.Need-read_checked-requires
+read_checked-requires c κs =
+    usable_checked (λ e. usable (passed c.args.s (sym c.refusal.ensures ∙ e)))
 
 returns : tie.Need-returns
 returns c =
-    let rc = c.before.before in
-    rw rc.before.before.refusal.ensures at rc.read-checked.ensures
+    rw c.refusal.ensures at c.read_checked.ensures
 
-pub read-unit-spec : {M : Type 1} → statement M
-read-unit-spec = tie.close (tie.spec (λ c κs. search rules) read-checked-requires (λ c. search rules) returns)
+pub read_unit_spec : {M : Type 1} → statement M
+read_unit_spec = tie.close (tie.spec (λ c κs. search rules) read_checked-requires (λ c. search rules) returns)

@@ -2,11 +2,11 @@ use borrow.Author.Tests.{eq-eqb, ne_eqb}
 use Rattle.reader.proofs.deliver.leaf_count.Statement.{statement}
 use Rattle.reader.proofs.deliver.leaf_count.Tie as tie
 
-returns : tie.Need-returns
-returns c = rw (eq-eqb _ _ c.if1.true)
+returns-then-splits-eq0 : tie.Need-returns-then-splits-eq0
+returns-then-splits-eq0 c = rw (eq-eqb _ _ c.if-splits-eq0.true)
 
-returns-2 : tie.Need-returns-2
-returns-2 c = rw (ne_eqb _ _ c.if1.false)
+returns-else-splits-eq0 : tie.Need-returns-else-splits-eq0
+returns-else-splits-eq0 c = rw (ne_eqb _ _ c.if-splits-eq0.false)
 
-pub leaf-count-spec : {M : Type 1} → statement M
-leaf-count-spec = tie.close (tie.spec returns returns-2)
+pub leaf_count_spec : {M : Type 1} → statement M
+leaf_count_spec = tie.close (tie.spec returns-then-splits-eq0 returns-else-splits-eq0)
