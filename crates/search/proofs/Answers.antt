@@ -1,11 +1,10 @@
 -- Numbers that answer for a search: that it is stuck where it is, that it goes on, and the better of two.
-use Prim.Native.Nat.{ℕ, ◌-◌, ◌/◌, ◌%◌, ◌≤◌, ◌<◌, max}
+use Prim.Native.Nat.{ℕ, ◌/◌, ◌%◌, ◌≤◌, ◌<◌, max}
 use mathlib.Core.Path.{◌≡◌, refl}
 use mathlib.Core.List.{List, []}
 use native.Mathlib.Omega.{arith}
 use lib.ListN.{length}
 use Rattle.tree.specs.Rows.{Row}
-use Rattle.tree.specs.Run.{goes}
 use Rattle.tree.specs.Search.{Fit, whole, stuck, better}
 use Rattle.laws.specs.FitRun.{fit_run}
 use Rattle.nodes.specs.State.{refusal, place_of, given_of}

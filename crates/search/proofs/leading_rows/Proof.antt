@@ -10,25 +10,20 @@ use Rattle.search.proofs.Root.{root_stuck, root_asked}
 use Rattle.search.proofs.leading_rows.Statement.{statement}
 use Rattle.search.proofs.leading_rows.Tie as tie
 
+returns-then-rows-eq0 : tie.Need-returns-then-rows-eq0
+returns-then-rows-eq0 c k root g left e = let h = c.if-rows-eq0.true in omega arith
+
+node_search-answer-requires : tie.Need-node_search-answer-requires
+node_search-answer-requires c κs =
+    let a = c.args in
+    let some = c.if-rows-eq0.false in
+    (subst (λ (d : ℕ). Asked (search_way a.rows.now) (Known a.out a.splits) a.u.now 0 (word a.row d ∷ [])) (sym c.depth_above-depths.ensures) (root_asked a.rows.now c.requires.0), c.requires.1, omega arith)
+
 returns : tie.Need-returns
-returns c k root g left e = let h = c.if1.true in omega arith
+returns c k root g left e =
+    let a = c.args in
+    let w = subst (λ (d : ℕ). Walked (search_way a.rows.now) (Known a.out a.splits) a.u.now 0 (word a.row d ∷ []) [] c.node_search-answer.result []) c.depth_above-depths.ensures c.node_search-answer.ensures in
+    c.refusal_place.ensures ∙ root_stuck g a.rows.now (omega arith) w left e
 
-node-search-requires : tie.Need-node-search-requires
-node-search-requires c κs =
-    let el = c.before in
-    let st = el.before.before in
-    let a = st.args in
-    let some = el.if1.false in
-    (subst (λ (d : ℕ). Asked (search_way a.rows.now) (Known a.out a.splits) a.u.now 0 (word a.row d ∷ [])) (sym c.depth-above.ensures) (root_asked a.rows.now st.requires.0), st.requires.1, omega arith)
-
-returns-2 : tie.Need-returns-2
-returns-2 c k root g left e =
-    let ns = c.before in
-    let da = ns.before in
-    let a = da.before.before.before.args in
-    let small = ns.node-search.type-inv in
-    let w = subst (λ (d : ℕ). Walked (search_way a.rows.now) (Known a.out a.splits) a.u.now 0 (word a.row d ∷ []) [] ns.node-search.result []) da.depth-above.ensures ns.node-search.ensures in
-    c.refusal-place.ensures ∙ root_stuck g a.rows.now (omega arith) w left e
-
-pub leading-rows-spec : {M : Type 1} → statement M
-leading-rows-spec = tie.close (tie.spec returns (λ c κs. search rules) node-search-requires (λ c κs. search rules) returns-2)
+pub leading_rows_spec : {M : Type 1} → statement M
+leading_rows_spec = tie.close (tie.spec returns-then-rows-eq0 (λ c κs. search rules) node_search-answer-requires (λ c κs. search rules) returns)

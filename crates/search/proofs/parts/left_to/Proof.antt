@@ -4,28 +4,28 @@ use Rattle.search.specs.Walking.{left_to}
 use Rattle.search.proofs.parts.left_to.Statement.{statement}
 use Rattle.search.proofs.parts.left_to.Tie as tie
 
-returns : tie.Need-returns
+returns-in-Leaf : tie.Need-returns-in-Leaf
 unfolding left_to
-returns c = rw c.enum_told.given.1 refl
+returns-in-Leaf c = rw c.in-Leaf.is refl
 
-returns-2 : tie.Need-returns-2
+returns-in-Quad : tie.Need-returns-in-Quad
 unfolding left_to
-returns-2 c = rw c.before.enum-told2.given.1 c.depth-above.ensures
+returns-in-Quad c = rw c.in-Quad.is c.depth_above.ensures
 
-returns-3 : tie.Need-returns-3
+returns-then-out : tie.Need-returns-then-out
 unfolding left_to
-returns-3 c = rw (c.before.before.enum-told3.given.1, c.before.if1.true) c.depth_below.ensures
+returns-then-out c = rw (c.in-Binary.is, c.if-out.true) c.depth_below.ensures
 
-returns-4 : tie.Need-returns-4
+returns-else-out : tie.Need-returns-else-out
 unfolding left_to
-returns-4 c = rw (c.before.before.enum-told3.given.1, c.before.if1.false) c.depth-beside.ensures
+returns-else-out c = rw (c.in-Binary.is, c.if-out.false) c.depth_beside.ensures
 
-returns-5 : tie.Need-returns-5
+returns-in-Ternary : tie.Need-returns-in-Ternary
 unfolding left_to
-returns-5 c = rw (c.before.before.before.d.given.1, ← c.before.part-cuts.ensures.0) c.depth-beside2.ensures
+returns-in-Ternary c = rw (c.in-Ternary.is, ← c.part_cuts.ensures.0) c.depth_beside-in-Ternary.ensures
 
-pub left-to-spec : {M : Type 1} → statement M
-left-to-spec =
+pub left_to_spec : {M : Type 1} → statement M
+left_to_spec =
     tie.close
     (tie.spec (λ c. search rules) (λ c. search rules) (λ c κs. search rules) (λ c. search rules) (λ c κs. search rules) (λ c κs. search rules) (λ c. search rules) (λ c κs. search rules) (λ c κs. search rules)
-    returns returns-2 returns-3 returns-4 returns-5)
+    returns-in-Leaf returns-in-Quad returns-then-out returns-else-out returns-in-Ternary)

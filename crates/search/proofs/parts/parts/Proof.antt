@@ -5,21 +5,21 @@ use Rattle.tree.specs.Children.{shares}
 use Rattle.search.proofs.parts.parts.Statement.{statement}
 use Rattle.search.proofs.parts.parts.Tie as tie
 
-returns : tie.Need-returns
+returns-in-Leaf : tie.Need-returns-in-Leaf
 unfolding shares
-returns c = rw c.enum_told.given.1 (refl, omega arith)
+returns-in-Leaf c = rw c.in-Leaf.is (refl, omega arith)
 
-returns-2 : tie.Need-returns-2
+returns-in-Quad : tie.Need-returns-in-Quad
 unfolding shares
-returns-2 c = rw c.enum-told2.given.1 (refl, omega arith)
+returns-in-Quad c = rw c.in-Quad.is (refl, omega arith)
 
-returns-3 : tie.Need-returns-3
+returns-in-Binary : tie.Need-returns-in-Binary
 unfolding shares
-returns-3 c = rw c.enum-told3.given.1 (refl, omega arith)
+returns-in-Binary c = rw c.in-Binary.is (refl, omega arith)
 
-returns-4 : tie.Need-returns-4
+returns-in-Ternary : tie.Need-returns-in-Ternary
 unfolding shares
-returns-4 c = rw c.enum-told4.given.1 (refl, omega arith)
+returns-in-Ternary c = rw c.in-Ternary.is (refl, omega arith)
 
-pub parts-spec : {M : Type 1} → statement M
-parts-spec = tie.close (tie.spec (λ c. search rules) (λ c. search rules) (λ c. search rules) (λ c. search rules) returns returns-2 returns-3 returns-4)
+pub parts_spec : {M : Type 1} → statement M
+parts_spec = tie.close (tie.spec (λ c. search rules) (λ c. search rules) (λ c. search rules) (λ c. search rules) returns-in-Leaf returns-in-Quad returns-in-Binary returns-in-Ternary)
