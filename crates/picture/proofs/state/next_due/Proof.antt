@@ -4,11 +4,11 @@ use borrow.Author.Rules.{rules}
 use Rattle.picture.proofs.state.next_due.Statement.{statement}
 use Rattle.picture.proofs.state.next_due.Tie as tie
 
-add-result : tie.Need-overflow-add-result
-add-result c = let l = c.before.before.requires _ c.enum_told.given.1 in omega arith
+overflow_add-result : tie.Need-overflow_add-result
+overflow_add-result c = let l = c.requires _ c.in-Accepted.is in omega arith
 
-returns : tie.Need-returns
-returns c = rw c.enum_told.given.1
+returns-in-Accepted : tie.Need-returns-in-Accepted
+returns-in-Accepted c = rw c.in-Accepted.is
 
-pub next-due-spec : {M : Type 1} → statement M
-next-due-spec = tie.close (tie.spec (λ c. search rules) add-result (λ c. search rules) returns (λ c. search rules))
+pub next_due_spec : {M : Type 1} → statement M
+next_due_spec = tie.close (tie.spec (λ c. search rules) overflow_add-result (λ c. search rules) returns-in-Accepted (λ c. search rules))
