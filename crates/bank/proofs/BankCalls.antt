@@ -145,4 +145,4 @@ pub kept_calls : {limit reserved long : ℕ} {accounts : List Account} {units : 
     → Kept limit reserved long (after_calls limit accounts calls) (granted_in limit accounts units calls)
 unfolding after_calls granted_in
 kept_calls kept [] = kept
-kept_calls kept (k ∷ calls) = kept_calls (kept_call kept k) calls
+kept_calls {limit = limit} {accounts = accounts} kept (k ∷ calls) = kept_calls {accounts = after_call limit accounts k} (kept_call kept k) calls

@@ -134,6 +134,7 @@ module _ (us : Units) (due limit : ℕ) (accounts : List Account) (camera : ℕ)
 
     -- the unit call's numbers stand before 36
     sooner : (number : ℕ) (ns : List ℕ) → OneOf number ns → OneOf number (ns ++ (36 ∷ []))
+    sooner number [] o = elim o [ ]
     sooner number (n ∷ ns) (inl e) = inl e
     sooner number (n ∷ ns) (inr o) = inr (sooner number ns o)
 

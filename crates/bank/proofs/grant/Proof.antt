@@ -8,26 +8,22 @@ use Rattle.bank.proofs.OnAccount.{within_most, grants_none, grants_within}
 use Rattle.bank.proofs.grant.Statement.{statement}
 use Rattle.bank.proofs.grant.Tie as tie
 
-returns : tie.Need-returns
-returns c =
-    let a = c.before.before.before.args in
-    grants_none a.left a.own a.session (call a.address a.flags.now a.rows.now) c.if1.true
+returns-then-exceeded : tie.Need-returns-then-exceeded
+returns-then-exceeded c =
+    let a = c.args in
+    grants_none a.left a.own a.session (call a.address a.flags.now a.rows.now) c.if-exceeded.true
 
 charged-requires : tie.Need-charged-requires
 charged-requires c κs count e =
-    let un = c.before.before in
-    let co = un.before.before in
-    let a = co.before.before.before.before.args in
-    let most = within_most co.could-have.result a.rows.now (unit_call a.session (call a.address a.flags.now a.rows.now)) (ap (λ (x : Called). x.answer) (sym un.unit-within.ensures.returns) ∙ e) in
-    let is = co.could-have.ensures in
+    let a = c.args in
+    let most = within_most c.could_have-could.result a.rows.now (unit_call a.session (call a.address a.flags.now a.rows.now)) (ap (λ (x : Called). x.answer) (sym c.unit_within-called.ensures.returns) ∙ e) in
+    let is = c.could_have-could.ensures in
     omega arith
 
-returns-2 : tie.Need-returns-2
-returns-2 c =
-    let un = c.before.before.before in
-    let co = un.before.before in
-    let a = co.before.before.before.before.args in
-    grants_within a.left a.own a.session (call a.address a.flags.now a.rows.now) co.before.if1.false co.could-have.ensures un.unit-within.ensures c.charged.ensures
+returns : tie.Need-returns
+returns c =
+    let a = c.args in
+    grants_within a.left a.own a.session (call a.address a.flags.now a.rows.now) c.if-exceeded.false c.could_have-could.ensures c.unit_within-called.ensures c.charged.ensures
 
-pub grant-spec : {M : Type 1} → statement M
-grant-spec = tie.close (tie.spec returns (λ c κs. search rules) (λ c κs. search rules) charged-requires (λ c. search rules) returns-2)
+pub grant_spec : {M : Type 1} → statement M
+grant_spec = tie.close (tie.spec returns-then-exceeded (λ c κs. search rules) (λ c κs. search rules) charged-requires (λ c. search rules) returns)

@@ -3,17 +3,17 @@ use Rattle.bank.proofs.judged.Statement.{statement}
 use Rattle.bank.proofs.judged.Tie as tie
 use Rattle.bank.specs.Steps.{judged}
 
+returns-in_default : tie.Need-returns-in_default
+unfolding judged
+returns-in_default c = search rules
+
+returns-then-number-place : tie.Need-returns-then-number-place
+unfolding judged
+returns-then-number-place c = rw (c.in-Refused.is, c.if-number-place.true)
+
 returns : tie.Need-returns
 unfolding judged
-returns c = search rules
+returns c = rw (c.in-Refused.is, c.if-number-place.false)
 
-returns-2 : tie.Need-returns-2
-unfolding judged
-returns-2 c = rw (c.before.before.answer.given.1, c.if1.true)
-
-returns-3 : tie.Need-returns-3
-unfolding judged
-returns-3 c = rw (c.before.before.answer.given.1, c.if1.false)
-
-pub judged-spec : {M : Type 1} → statement M
-judged-spec = tie.close (tie.spec (λ c. search rules) (λ c. search rules) returns returns-2 returns-3)
+pub judged_spec : {M : Type 1} → statement M
+judged_spec = tie.close (tie.spec (λ c. search rules) (λ c. search rules) returns-in_default returns-then-number-place returns)

@@ -7,24 +7,17 @@ use Rattle.bank.proofs.OnAccount.{answered}
 use Rattle.bank.proofs.unit_answer.Statement.{statement}
 use Rattle.bank.proofs.unit_answer.Tie as tie
 
-returns : tie.Need-returns
-returns c =
-    let nu = c.before in
-    let st = nu.before.before in
-    let uc = st.before in
-    let a = uc.before.before.before.args in
-    answered (state_refused (units_of a.settings) a.due (call a.address a.flags.now a.rows.now) uc.unit-count.ensures st.state-at.ensures (λ x. x) nu.number.given.1 refl refl)
+returns-in-Refused : tie.Need-returns-in-Refused
+returns-in-Refused c =
+    let a = c.args in
+    answered (state_refused (units_of a.settings) a.due (call a.address a.flags.now a.rows.now) c.unit_count.ensures c.state_at.ensures (λ x. x) c.in-Refused.is refl refl)
 
-returns-2 : tie.Need-returns-2
-returns-2 c =
-    let ru = c.before.before in
-    let d = ru.before.before in
-    let st = d.before.before in
-    let uc = st.before in
-    let a = uc.before.before.before.args in
-    answered (unit_read (units_of a.settings) a.due (call a.address a.flags.now a.rows.now) uc.unit-count.ensures st.state-at.ensures (λ x. x) d.enum_told.given.1 ru.read_unit_fault.ensures refl)
+returns-in-Due : tie.Need-returns-in-Due
+returns-in-Due c =
+    let a = c.args in
+    answered (unit_read (units_of a.settings) a.due (call a.address a.flags.now a.rows.now) c.unit_count.ensures c.state_at.ensures (λ x. x) c.in-Due.is c.read_unit.ensures refl)
 
-pub unit-answer-spec : {M : Type 1} → statement M
-unit-answer-spec =
+pub unit_answer_spec : {M : Type 1} → statement M
+unit_answer_spec =
     tie.close
-    (tie.spec (λ c κs. search rules) (λ c κs. search rules) (λ c. search rules) (λ c. search rules) (λ c κs. search rules) returns (λ c. search rules) returns-2)
+    (tie.spec (λ c κs. search rules) (λ c κs. search rules) (λ c. search rules) (λ c. search rules) (λ c κs. search rules) returns-in-Refused (λ c. search rules) returns-in-Due)

@@ -6,24 +6,20 @@ use Rattle.bank.proofs.OnAccount.{within_returns, judged_small}
 use Rattle.bank.proofs.unit_within.Statement.{statement}
 use Rattle.bank.proofs.unit_within.Tie as tie
 
-slice-aggregate-unit-answer : tie.Need-slice-aggregate-unit-answer
-slice-aggregate-unit-answer c = let e = c.before.part.ensures in sym (length-take-le c.before.part.result _ (omega arith))
+slice_bounds-unit_answer-end-2 : tie.Need-slice_bounds-unit_answer-end-2
+slice_bounds-unit_answer-end-2 c = let e = c.part-n.ensures in sym (length-take-le c.part-n.result _ (omega arith))
 
-next-due-requires : tie.Need-next-due-requires
-next-due-requires c κs =
-    let un = c.before.before.before in
-    let a = un.before.before.before.before.before.before.args in
-    judged_small a.session _ un.unit-answer.ensures _ _ c.judged.ensures
+next_due-requires : tie.Need-next_due-requires
+next_due-requires c κs =
+    let a = c.args in
+    judged_small a.session _ c.unit_answer-answer.ensures _ _ c.judged-said.ensures
 
 returns : tie.Need-returns
 returns c =
-    let ju = c.before in
-    let un = ju.before.before.before in
-    let pa = un.before.before in
-    let a = pa.before.before.before.before.args in
-    within_returns a.session a.could a.address a.flags.now a.rows.now pa.part.ensures un.unit-answer.ensures ju.judged.ensures c.next-due.ensures
+    let a = c.args in
+    within_returns a.session a.could a.address a.flags.now a.rows.now c.part-n.ensures c.unit_answer-answer.ensures c.judged-said.ensures c.next_due.ensures
 
-pub unit-within-spec : {M : Type 1} → statement M
-unit-within-spec =
+pub unit_within_spec : {M : Type 1} → statement M
+unit_within_spec =
     tie.close
-    (tie.spec (λ c κs. search rules) (λ c. search rules) slice-aggregate-unit-answer (λ c κs. search rules) (λ c κs. search rules) next-due-requires (λ c. search rules) returns)
+    (tie.spec (λ c κs. search rules) (λ c. search rules) slice_bounds-unit_answer-end-2 (λ c κs. search rules) (λ c κs. search rules) next_due-requires (λ c. search rules) returns)
