@@ -5,9 +5,9 @@
 ghost use Rattle.std.specs.Prelude.{◌≡◌, ◌<◌};
 ghost use Rattle.unit.specs.Cases as Cases;
 
-use libc::STDOUT_FILENO;
 use picture::{Called, Opened, Session};
 use settings::Settings;
+use std::io;
 use unit::Answer;
 
 // Setting A of document 01 with another picture.
@@ -26,112 +26,136 @@ fn setting_a(width: u32, height: u32) -> Settings
     }
 }
 
-fn say(text: &[u8], n: u64) {
-    io::write_all(STDOUT_FILENO, text);
-    io::print_decimal(STDOUT_FILENO, n);
+fn say(rt: &impl Print, text: &str, n: u64) -> io::Result<()> {
+    print!(rt; "{text}{n}")
 }
 
 // An answer: a refusal's number and place, or the number of rows.
-fn say_called(text: &[u8], c: Called) -> Session {
+fn say_called(rt: &impl Print, text: &str, c: Called) -> io::Result<Session> {
     let answer = c.answer;
     match answer {
         Answer::Refused(number, place) => {
-            say(text, number as u64);
-            say(b" at ", place as u64);
+            say(rt, text, number as u64)?;
+            say(rt, " at ", place as u64)?;
         }
         Answer::Accepted(count) => {
-            say(text, count as u64);
-            io::write_all(STDOUT_FILENO, b" rows");
+            say(rt, text, count as u64)?;
+            rt.print(" rows")?;
         }
     }
-    let session = c.session;
-    session
+    Ok(c.session)
 }
 
 // A unit's line: refused for the address after it, without its flags and without room for its rows, then accepted.
 // Each call is on the session that the one before it yielded.
-fn say_unit(t: Session, address: usize, flags: &[u8], rows: &mut [u8; 64]) -> Session
+fn say_unit(
+    rt: &impl Print,
+    t: Session,
+    address: usize,
+    flags: &[u8],
+    rows: &mut [u8; 64],
+) -> io::Result<Session>
     requires { address < 1000 }
 {
     let mut few = [0u8; 7];
-    say(b"\n  unit ", address as u64);
-    let skipped = say_called(b": ", t.unit(address + 1, flags, rows));
-    let early = say_called(b", ", skipped.unit(address, b"", rows));
-    let short = say_called(b", ", early.unit(address, flags, &mut few));
-    let next = say_called(b", ", short.unit(address, flags, rows));
-    say(b"; due ", next.due as u64);
-    next
+    say(rt, "\n  unit ", address as u64)?;
+    let skipped = say_called(rt, ": ", t.unit(address + 1, flags, rows))?;
+    let early = say_called(rt, ", ", skipped.unit(address, b"", rows))?;
+    let short = say_called(rt, ", ", early.unit(address, flags, &mut few))?;
+    let next = say_called(rt, ", ", short.unit(address, flags, rows))?;
+    say(rt, "; due ", next.due as u64)?;
+    Ok(next)
 }
 
 // The bytes of so many rows, 8 at most, a row a line.
-fn say_rows(rows: &[u8; 64], count: usize) {
+fn say_rows(rt: &impl Print, rows: &[u8; 64], count: usize) -> io::Result<()> {
     for i in 0..64 {
         if i / 8 < count {
-            say_byte(rows[i], i % 8 == 0);
+            say_byte(rt, rows[i], i % 8 == 0)?;
         }
     }
+    Ok(())
 }
 
-fn say_byte(byte: u8, first: bool) {
+fn say_byte(rt: &impl Print, byte: u8, first: bool) -> io::Result<()> {
     if first {
-        say(b"\n    ", byte as u64);
+        say(rt, "\n    ", byte as u64)?;
     } else {
-        say(b" ", byte as u64);
+        say(rt, " ", byte as u64)?;
     }
+    Ok(())
 }
 
 // A complete picture, and sessions whose fields were forged.
-fn say_end(t: Session, address: usize) {
+fn say_end(rt: &impl Print, t: Session, address: usize) -> io::Result<()> {
     let mut rows = [0u8; 64];
-    let end = say_called(b"\n  complete: ", t.unit(address, b"\x00", &mut rows));
+    let end = say_called(rt, "\n  complete: ", t.unit(address, b"\x00", &mut rows))?;
     let mut past = end;
     past.due = 1000;
-    say_called(b"\n  1,000 due: ", past.unit(1000, b"\x00", &mut rows));
+    say_called(rt, "\n  1,000 due: ", past.unit(1000, b"\x00", &mut rows))?;
     let mut cut = end;
     cut.settings = setting_a(68, 64);
     cut.due = 0;
-    say_called(b"\n  width 68: ", cut.unit(0, b"\x00", &mut rows));
+    say_called(rt, "\n  width 68: ", cut.unit(0, b"\x00", &mut rows))?;
+    Ok(())
 }
 
 // A unit of the small picture, and its rows.
-fn say_small_unit(t: Session, address: usize, flags: &[u8], count: usize) -> Session
+fn say_small_unit(
+    rt: &impl Print,
+    t: Session,
+    address: usize,
+    flags: &[u8],
+    count: usize,
+) -> io::Result<Session>
     requires { address < 1000 }
 {
     let mut rows = [0u8; 64];
-    let next = say_unit(t, address, flags, &mut rows);
-    say_rows(&rows, count);
-    next
+    let next = say_unit(rt, t, address, flags, &mut rows)?;
+    say_rows(rt, &rows, count)?;
+    Ok(next)
 }
 
 // A picture of 72 by 72: three of its four units reach past an edge, by 56 samples.
-fn say_small(fresh: Session) {
-    let first = say_small_unit(fresh, 0, b"\x01\x01\x00\x01\x00\x00\x00\x00\x00\x00\x00", 6);
-    let second = say_small_unit(first, 1, b"\x00\x00\x01\x00\x00\x01\x00\x00", 4);
-    let third = say_small_unit(second, 2, b"\x00\x00\x01\x00\x00\x01\x00\x00", 4);
-    let last = say_small_unit(third, 3, b"\x00", 1);
-    say_end(last, 4);
+fn say_small(rt: &impl Print, fresh: Session) -> io::Result<()> {
+    let first = say_small_unit(
+        rt,
+        fresh,
+        0,
+        b"\x01\x01\x00\x01\x00\x00\x00\x00\x00\x00\x00",
+        6,
+    )?;
+    let second = say_small_unit(rt, first, 1, b"\x00\x00\x01\x00\x00\x01\x00\x00", 4)?;
+    let third = say_small_unit(rt, second, 2, b"\x00\x00\x01\x00\x00\x01\x00\x00", 4)?;
+    let last = say_small_unit(rt, third, 3, b"\x00", 1)?;
+    say_end(rt, last, 4)?;
+    Ok(())
 }
 
 // Opens a session, and goes on with a picture where it is accepted.
-fn say_opened(text: &[u8], s: Settings) -> Session {
-    io::write_all(STDOUT_FILENO, text);
+fn say_opened(rt: &impl Print, text: &str, s: Settings) -> io::Result<Session> {
+    rt.print(text)?;
     match Session::open(s) {
         Opened::Refused(number) => {
-            say(b"refused ", number as u64);
-            Session {
+            say(rt, "refused ", number as u64)?;
+            Ok(Session {
                 settings: s,
                 due: 0,
-            }
+            })
         }
         Opened::Fresh(t) => {
-            say(b"opened, due ", t.due as u64);
-            t
+            say(rt, "opened, due ", t.due as u64)?;
+            Ok(t)
         }
     }
 }
 
-fn main() {
-    say_opened(b"a picture of width 68: ", setting_a(68, 64));
-    say_small(say_opened(b"\na picture of 72 by 72: ", setting_a(72, 72)));
-    io::write_all(STDOUT_FILENO, b"\n");
+fn main(rt: HostRuntime) -> io::Result<()> {
+    say_opened(&rt, "a picture of width 68: ", setting_a(68, 64))?;
+    say_small(
+        &rt,
+        say_opened(&rt, "\na picture of 72 by 72: ", setting_a(72, 72))?,
+    )?;
+    rt.print("\n")?;
+    Ok(())
 }
