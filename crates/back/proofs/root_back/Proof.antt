@@ -18,69 +18,42 @@ use Rattle.back.proofs.root_back.Tie as tie
 asked_in : {rows u : List ℕ} {c row : ℕ} {out : Bool} {splits bound : ℕ} → Starts rows c row → SomeRoot u row out splits → out ≡ false → bound ≡ bound_in u 0 → Asked (back_way rows) (Inside bound) u c (word row splits ∷ [])
 asked_in {rows} {c = c} s some within is = in_asked (back_way rows) _ c (starts_left s) s.room within is some
 
-node-back-requires : tie.Need-node-back-requires
-node-back-requires c κs =
-    let th = c.before.before in
-    let st = th.before.before in
-    let some = st.requires.0 in
-    let s = st.requires.1 in
-    (out_asked (back_way st.args.rows.now) _ st.args.c (starts_left s) s.room th.if1.true c.depth-above.ensures some, st.requires.2, st.requires.3, root_begins some.given, root_out some.given th.if1.true)
+node_back-requires : tie.Need-node_back-requires
+node_back-requires c κs =
+    let some = c.requires.0 in
+    let s = c.requires.1 in
+    (out_asked (back_way c.args.rows.now) _ c.args.c (starts_left s) s.room c.if-out.true c.depth_above.ensures some, c.requires.2, c.requires.3, root_begins some.given, root_out some.given c.if-out.true)
 
-returns : tie.Need-returns
-returns c =
-    let da = c.before in
-    let th = da.before.before in
-    let st = th.before.before in
-    let s = st.requires.1 in
-    out_done (back_way st.args.rows.now) _ st.args.c (starts_left s) s.room th.if1.true da.depth-above.ensures c.node-back.ensures
+returns-then-out : tie.Need-returns-then-out
+returns-then-out c =
+    let s = c.requires.1 in
+    out_done (back_way c.args.rows.now) _ c.args.c (starts_left s) s.room c.if-out.true c.depth_above.ensures c.node_back.ensures
 
-same-row-requires : tie.Need-same-row-requires
-same-row-requires c κs =
-    let bo = c.before in
-    let el = bo.before in
-    let st = el.before.before in
-    at_row (asked_in st.requires.1 st.requires.0 el.if1.false bo.bound.ensures) st.requires.2 c.place.ensures.0
+same_row-requires : tie.Need-same_row-requires
+same_row-requires c κs =
+    at_row (asked_in c.requires.1 c.requires.0 c.if-out.false c.bound-bound.ensures) c.requires.2 c.place.ensures.0
 
 leaf-requires : tie.Need-leaf-requires
 leaf-requires c κs =
-    let pl = c.before.before.before in
-    let bo = pl.before in
-    let el = bo.before in
-    let st = el.before.before in
-    leaf_room (asked_in st.requires.1 st.requires.0 el.if1.false bo.bound.ensures) st.requires.2 pl.place.ensures.0 st.requires.3
+    leaf_room (asked_in c.requires.1 c.requires.0 c.if-out.false c.bound-bound.ensures) c.requires.2 c.place.ensures.0 c.requires.3
 
-returns-2 : tie.Need-returns-2
-returns-2 c =
-    let th = c.before.before in
-    let sa = th.before in
-    let pl = sa.before in
-    let bo = pl.before in
-    let el = bo.before in
-    let st = el.before.before in
-    let s = st.requires.1 in
-    let own = walked_own (asked_in s st.requires.0 el.if1.false bo.bound.ensures) st.requires.2 pl.place.ensures.0 sa.same_row.ensures th.if2.true c.leaf.ensures in
-    in_done (back_way st.args.rows.now) _ st.args.c (starts_left s) s.room el.if1.false bo.bound.ensures own
+returns-then-same_row : tie.Need-returns-then-same_row
+returns-then-same_row c =
+    let s = c.requires.1 in
+    let own = walked_own (asked_in s c.requires.0 c.if-out.false c.bound-bound.ensures) c.requires.2 c.place.ensures.0 c.same_row.ensures c.if-same_row.true c.leaf.ensures in
+    in_done (back_way c.args.rows.now) _ c.args.c (starts_left s) s.room c.if-out.false c.bound-bound.ensures own
 
-node-back-requires-2 : tie.Need-node-back-requires-2
-node-back-requires-2 c κs =
-    let lt = c.before in
-    let sa = lt.before in
-    let pl = sa.before in
-    let bo = pl.before in
-    let el = bo.before in
-    let st = el.before.before in
-    let asked = asked_in st.requires.1 st.requires.0 el.if1.false bo.bound.ensures in
-    (asked, st.requires.2, st.requires.3, not_own asked st.requires.2 pl.place.ensures.0 sa.same_row.ensures lt.if2.false)
+node_back-requires-2 : tie.Need-node_back-requires-2
+node_back-requires-2 c κs =
+    let asked = asked_in c.requires.1 c.requires.0 c.if-out.false c.bound-bound.ensures in
+    (asked, c.requires.2, c.requires.3, not_own asked c.requires.2 c.place.ensures.0 c.same_row.ensures c.if-same_row.false)
 
-returns-3 : tie.Need-returns-3
-returns-3 c =
-    let bo = c.before.before.before.before.before in
-    let el = bo.before in
-    let st = el.before.before in
-    let s = st.requires.1 in
-    in_done (back_way st.args.rows.now) _ st.args.c (starts_left s) s.room el.if1.false bo.bound.ensures c.node-back2.ensures
+returns : tie.Need-returns
+returns c =
+    let s = c.requires.1 in
+    in_done (back_way c.args.rows.now) _ c.args.c (starts_left s) s.room c.if-out.false c.bound-bound.ensures c.node_back-2.ensures
 
-pub root-back-spec : {M : Type 1} → statement M
-root-back-spec =
+pub root_back_spec : {M : Type 1} → statement M
+root_back_spec =
     tie.close
-    (tie.spec (λ c κs. search rules) node-back-requires returns (λ c κs. search rules) (λ c κs. search rules) same-row-requires leaf-requires returns-2 node-back-requires-2 returns-3)
+    (tie.spec (λ c κs. search rules) node_back-requires returns-then-out (λ c κs. search rules) (λ c κs. search rules) same_row-requires leaf-requires returns-then-same_row node_back-requires-2 returns)

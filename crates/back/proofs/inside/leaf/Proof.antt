@@ -14,18 +14,15 @@ on_row c r few near e = (omega arith, omega arith)
 on-flag : (c m r : ℕ) → given_of c < 2048 → place_of c ≤ 8192 → m ≡ (c + 8) % 2 ^ 64 → r ≡ (m + 4294967296) % 2 ^ 64 → (given_of r ≡ given_of c + 1) × (place_of r ≡ place_of c + 8)
 on-flag c m r few near e f = let g = on_row c m few near e in (omega arith, omega arith)
 
+returns-then-splits-eq0 : tie.Need-returns-then-splits-eq0
+returns-then-splits-eq0 c =
+    let on = on_row c.args.c _ c.requires.0 c.requires.1 c.further.ensures in
+    (rw on.0 (no_leaf c.args.flags.now (given_of c.args.c) c.if-splits-eq0.true), on.1)
+
 returns : tie.Need-returns
 returns c =
-    let st = c.before.before in
-    let on = on_row st.args.c _ st.requires.0 st.requires.1 c.further.ensures in
-    (rw on.0 (no_leaf st.args.flags.now (given_of st.args.c) c.before.if1.true), on.1)
+    let on = on-flag c.args.c _ _ c.requires.0 c.requires.1 c.further-2.ensures c.one_more.ensures in
+    (rw (on.0, c.count.ensures.0) (stored_leaf _ (omega arith) c.requires.3 c.if-splits-eq0.false), on.1)
 
-returns-2 : tie.Need-returns-2
-returns-2 c =
-    let cn = c.before.before in
-    let st = cn.before.before in
-    let on = on-flag st.args.c _ _ st.requires.0 st.requires.1 c.before.further2.ensures c.one_more.ensures in
-    (rw (on.0, cn.count.ensures.0) (stored_leaf _ (let h = st.requires.2 in let f = st.requires.0 in omega arith) st.requires.3 cn.before.if1.false), on.1)
-
-pub leaf-spec : {M : Type 1} → statement M
-leaf-spec = tie.close (tie.spec (λ c κs. search rules) returns (λ c κs. search rules) (λ c. search rules) (λ c κs. search rules) (λ c κs. search rules) returns-2)
+pub leaf_spec : {M : Type 1} → statement M
+leaf_spec = tie.close (tie.spec (λ c κs. search rules) returns-then-splits-eq0 (λ c κs. search rules) (λ c. search rules) (λ c κs. search rules) (λ c κs. search rules) returns)
