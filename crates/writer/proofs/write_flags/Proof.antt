@@ -7,34 +7,23 @@ use Rattle.writer.proofs.Looked.{none_written, there_written}
 use Rattle.writer.proofs.write_flags.Statement.{statement}
 use Rattle.writer.proofs.write_flags.Tie as tie
 
-write-rows-requires : tie.Need-write-rows-requires
-write-rows-requires c κs =
-    let ro = c.before in
-    let li = ro.before in
-    let q = li.before.before in
-    let ua = q.before.before in
-    let a = ua.before.before.before.args in
-    found_rooted (usable_checked (λ e. usable (passed a.s e))) a.address ua.unit-at.ensures q.q.given.1 li.limits.ensures ro.root.ensures
+write_rows-requires : tie.Need-write_rows-requires
+write_rows-requires c κs =
+    let a = c.args in
+    found_rooted (usable_checked (λ e. usable (passed a.s e))) a.address c.unit_at.ensures c.in-At.is c.limits.ensures c.root.ensures
 
-returns : tie.Need-returns
-returns c =
-    let nu = c.before in
-    let ua = nu.before.before in
-    let a = ua.before.before.before.args in
-    none_written (limits_of a.s) ua.unit-at.ensures a.rows.now nu.number.given.1 a.flags.now
+returns-in-Refused : tie.Need-returns-in-Refused
+returns-in-Refused c =
+    let a = c.args in
+    none_written (limits_of a.s) c.unit_at.ensures a.rows.now c.in-Refused.is a.flags.now
 
-returns-2 : tie.Need-returns-2
-returns-2 c =
-    let wr = c.before.before in
-    let ro = wr.before.before in
-    let li = ro.before in
-    let q = li.before.before in
-    let ua = q.before.before in
-    let a = ua.before.before.before.args in
-    there_written (limits_of a.s) ua.unit-at.ensures a.rows.now q.q.given.1 li.limits.ensures ro.root.ensures a.flags.now wr.write-rows.ensures
+returns-in-At : tie.Need-returns-in-At
+returns-in-At c =
+    let a = c.args in
+    there_written (limits_of a.s) c.unit_at.ensures a.rows.now c.in-At.is c.limits.ensures c.root.ensures a.flags.now c.write_rows.ensures
 
-pub write-flags-spec : {M : Type 1} → statement M
-write-flags-spec =
+pub write_flags_spec : {M : Type 1} → statement M
+write_flags_spec =
     tie.close
-    (tie.spec (λ c κs. search rules) (λ c. search rules) (λ c. search rules) (λ c κs. search rules) (λ c κs. search rules) write-rows-requires returns (λ c. search rules)
-    returns-2)
+    (tie.spec (λ c κs. search rules) (λ c. search rules) (λ c. search rules) (λ c κs. search rules) (λ c κs. search rules) write_rows-requires returns-in-Refused (λ c. search rules)
+    returns-in-At)

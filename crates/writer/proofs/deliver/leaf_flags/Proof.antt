@@ -3,32 +3,29 @@ use Rattle.writer.proofs.Ends.{leaf_none, leaf_short, leaf_done}
 use Rattle.writer.proofs.deliver.leaf_flags.Statement.{statement}
 use Rattle.writer.proofs.deliver.leaf_flags.Tie as tie
 
-some-open-requires : tie.Need-some-open-requires
-some-open-requires c κs = search rules
+some_open-requires : tie.Need-some_open-requires
+some_open-requires c κs = search rules
+
+returns-then-not-some_open : tie.Need-returns-then-not-some_open
+returns-then-not-some_open c =
+    let a = c.args in
+    leaf_none a.splits c.some_open.ensures a.flags.now c.if-not-some_open.true-raw
+
+returns-then-flags-eq0 : tie.Need-returns-then-flags-eq0
+returns-then-flags-eq0 c =
+    let a = c.args in
+    leaf_short a.splits c.some_open.ensures a.flags.now c.if-not-some_open.false-raw c.if-flags-eq0.true
+
+bounds-flags-0 : tie.Need-bounds-flags-0
+bounds-flags-0 c = search rules
+
+shape_of-flags : tie.Need-shape_of-flags
+shape_of-flags c = search rules
 
 returns : tie.Need-returns
 returns c =
-    let so = c.before in
-    let a = so.before.before.args in
-    leaf_none a.splits so.some_open_lem.ensures a.flags.now c.if1.true
+    let a = c.args in
+    leaf_done a.splits c.some_open.ensures a.flags.now c.if-not-some_open.false-raw c.if-flags-eq0.false
 
-returns-2 : tie.Need-returns-2
-returns-2 c =
-    let so = c.before.before in
-    let a = so.before.before.args in
-    leaf_short a.splits so.some_open_lem.ensures a.flags.now c.before.if1.false c.if2.true
-
-slice-write-flags : tie.Need-slice-write-flags
-slice-write-flags c = search rules
-
-same_length : tie.Need-same-length
-same_length c = search rules
-
-returns-3 : tie.Need-returns-3
-returns-3 c =
-    let so = c.before.before in
-    let a = so.before.before.args in
-    leaf_done a.splits so.some_open_lem.ensures a.flags.now c.before.if1.false c.if2.false
-
-pub leaf-flags-spec : {M : Type 1} → statement M
-leaf-flags-spec = tie.close (tie.spec some-open-requires returns returns-2 slice-write-flags same_length returns-3)
+pub leaf_flags_spec : {M : Type 1} → statement M
+leaf_flags_spec = tie.close (tie.spec some_open-requires returns-then-not-some_open returns-then-flags-eq0 bounds-flags-0 shape_of-flags returns)

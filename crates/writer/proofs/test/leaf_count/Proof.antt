@@ -3,14 +3,14 @@ use Rattle.writer.proofs.Ends.{leaf_one, leaf_zero}
 use Rattle.writer.proofs.test.leaf_count.Statement.{statement}
 use Rattle.writer.proofs.test.leaf_count.Tie as tie
 
-some-open-requires : tie.Need-some-open-requires
-some-open-requires c κs = search rules
+some_open-requires : tie.Need-some_open-requires
+some_open-requires c κs = search rules
 
-returns : tie.Need-returns
-returns c = leaf_one c.before.before.args.splits c.before.some_open_lem.ensures c.if1.true
+returns-then-some_open : tie.Need-returns-then-some_open
+returns-then-some_open c = leaf_one c.args.splits c.some_open.ensures c.if-some_open.true
 
-returns-2 : tie.Need-returns-2
-returns-2 c = leaf_zero c.before.before.args.splits c.before.some_open_lem.ensures c.if1.false
+returns-else-some_open : tie.Need-returns-else-some_open
+returns-else-some_open c = leaf_zero c.args.splits c.some_open.ensures c.if-some_open.false
 
-pub leaf-count-spec : {M : Type 1} → statement M
-leaf-count-spec = tie.close (tie.spec some-open-requires returns returns-2)
+pub leaf_count_spec : {M : Type 1} → statement M
+leaf_count_spec = tie.close (tie.spec some_open-requires returns-then-some_open returns-else-some_open)

@@ -5,14 +5,14 @@ use Rattle.writer.proofs.Alone.{quad_leaf}
 use Rattle.writer.proofs.test.leaf_splits.Statement.{statement}
 use Rattle.writer.proofs.test.leaf_splits.Tie as tie
 
-open-splits-requires : tie.Need-open-splits-requires
-open-splits-requires c κs = search rules
+open_splits-requires : tie.Need-open_splits-requires
+open_splits-requires c κs = search rules
 
-returns : tie.Need-returns
-returns c = quad_leaf c.before.before.before.requires c.if1.true
+returns-then-l-root : tie.Need-returns-then-l-root
+returns-then-l-root c = quad_leaf c.requires c.if-l-root.true
 
-returns-2 : tie.Need-returns-2
-returns-2 c = ap (λ splits. leaf_flags splits) c.open-splits.ensures
+returns-else-l-root : tie.Need-returns-else-l-root
+returns-else-l-root c = ap (λ splits. leaf_flags splits) c.open_splits.ensures
 
-pub leaf-splits-spec : {M : Type 1} → statement M
-leaf-splits-spec = tie.close (tie.spec open-splits-requires returns returns-2)
+pub leaf_splits_spec : {M : Type 1} → statement M
+leaf_splits_spec = tie.close (tie.spec open_splits-requires returns-then-l-root returns-else-l-root)

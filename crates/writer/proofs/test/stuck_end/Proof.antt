@@ -5,40 +5,23 @@ use Rattle.writer.proofs.Whole.{leads_all, leads_some}
 use Rattle.writer.proofs.test.stuck_end.Statement.{statement}
 use Rattle.writer.proofs.test.stuck_end.Tie as tie
 
-leading-rows-requires : tie.Need-leading-rows-requires
-leading-rows-requires c κs =
-    let ou = c in
-    let ro = ou.before.before in
-    let op = ro.before in
-    let ta = op.before in
-    let st = ta.before.before in
-    let a = st.args in
-    let given : Given (luma a.l) a.root _ _ _ _ = record { rooted = st.requires.0; table = ta.luma-table.ensures; row_is = ro.row_word.ensures; out_is = ou.out.ensures; splits_are = op.open-splits.ensures } in
-    (record { kind = luma a.l; root = a.root; given = given }, st.requires.1)
+leading_rows-leading-requires : tie.Need-leading_rows-leading-requires
+leading_rows-leading-requires c κs =
+    let a = c.args in
+    let given : Given (luma a.l) a.root _ _ _ _ = record { rooted = c.requires.0; table = c.luma_table-u.ensures; row_is = c.row_word-row.ensures; out_is = c.out.ensures; splits_are = c.open_splits-splits.ensures } in
+    (record { kind = luma a.l; root = a.root; given = given }, c.requires.1)
+
+returns-then-leading-rows : tie.Need-returns-then-leading-rows
+returns-then-leading-rows c =
+    let a = c.args in
+    let given : Given (luma a.l) a.root _ _ _ _ = record { rooted = c.requires.0; table = c.luma_table-u.ensures; row_is = c.row_word-row.ensures; out_is = c.out.ensures; splits_are = c.open_splits-splits.ensures } in
+    leads_all c.requires.0 a.rows.now (c.leading_rows-leading.ensures (luma a.l) a.root given) c.if-leading-rows.true
 
 returns : tie.Need-returns
 returns c =
-    let le = c.before in
-    let ou = le.before in
-    let ro = ou.before.before in
-    let op = ro.before in
-    let ta = op.before in
-    let st = ta.before.before in
-    let a = st.args in
-    let given : Given (luma a.l) a.root _ _ _ _ = record { rooted = st.requires.0; table = ta.luma-table.ensures; row_is = ro.row_word.ensures; out_is = ou.out.ensures; splits_are = op.open-splits.ensures } in
-    leads_all st.requires.0 a.rows.now (le.leading-rows.ensures (luma a.l) a.root given) c.if1.true
+    let a = c.args in
+    let given : Given (luma a.l) a.root _ _ _ _ = record { rooted = c.requires.0; table = c.luma_table-u.ensures; row_is = c.row_word-row.ensures; out_is = c.out.ensures; splits_are = c.open_splits-splits.ensures } in
+    leads_some c.requires.0 a.rows.now (c.leading_rows-leading.ensures (luma a.l) a.root given) c.if-leading-rows.false
 
-returns-2 : tie.Need-returns-2
-returns-2 c =
-    let le = c.before in
-    let ou = le.before in
-    let ro = ou.before.before in
-    let op = ro.before in
-    let ta = op.before in
-    let st = ta.before.before in
-    let a = st.args in
-    let given : Given (luma a.l) a.root _ _ _ _ = record { rooted = st.requires.0; table = ta.luma-table.ensures; row_is = ro.row_word.ensures; out_is = ou.out.ensures; splits_are = op.open-splits.ensures } in
-    leads_some st.requires.0 a.rows.now (le.leading-rows.ensures (luma a.l) a.root given) c.if1.false
-
-pub stuck-end-spec : {M : Type 1} → statement M
-stuck-end-spec = tie.close (tie.spec (λ c κs. search rules) (λ c κs. search rules) (λ c κs. search rules) (λ c κs. search rules) leading-rows-requires returns returns-2)
+pub stuck_end_spec : {M : Type 1} → statement M
+stuck_end_spec = tie.close (tie.spec (λ c κs. search rules) (λ c κs. search rules) (λ c κs. search rules) (λ c κs. search rules) leading_rows-leading-requires returns-then-leading-rows returns)

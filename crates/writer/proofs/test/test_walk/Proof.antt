@@ -6,23 +6,15 @@ use Rattle.writer.proofs.Whole.{root_walked, root_refused}
 use Rattle.writer.proofs.test.test_walk.Statement.{statement}
 use Rattle.writer.proofs.test.test_walk.Tie as tie
 
+returns-in_default : tie.Need-returns-in_default
+returns-in_default c =
+    (root_refused c.requires.0 c.args.rows.now c.requires.1 c.walk_all.ensures (was_refused _ c.child_answer.ensures c.in_default.is) c.stuck_end.ensures).answers
+
 returns : tie.Need-returns
 returns c =
-    let et = c.before in
-    let ca = et.before.before in
-    let wa = ca.before in
-    let st = wa.before.before.before in
-    (root_refused st.requires.0 st.args.rows.now st.requires.1 wa.walk-all.ensures (was_refused _ ca.child-answer.ensures et.enum_told.given.1) c.stuck-end.ensures).answers
+    let on = was_walked _ c.child_answer.ensures c.in-Walked.is in
+    (root_walked c.requires.0 c.args.rows.now c.requires.1 c.walk_all.ensures on.1 (c.walk_end.ensures ∙ ap (λ x. walk_end x c.args.rows.now) on.0)).answers
 
-returns-2 : tie.Need-returns-2
-returns-2 c =
-    let en = c.before.before in
-    let ca = en.before.before in
-    let wa = ca.before in
-    let st = wa.before.before.before in
-    let on = was_walked _ ca.child-answer.ensures en.end.given.1 in
-    (root_walked st.requires.0 st.args.rows.now st.requires.1 wa.walk-all.ensures on.1 (c.walk-end.ensures ∙ ap (λ x. walk_end x st.args.rows.now) on.0)).answers
-
-pub test-walk-spec : {M : Type 1} → statement M
-test-walk-spec =
-    tie.close (tie.spec (λ c κs. search rules) (λ c κs. search rules) (λ c. search rules) (λ c. search rules) (λ c κs. search rules) returns (λ c κs. search rules) returns-2)
+pub test_walk_spec : {M : Type 1} → statement M
+test_walk_spec =
+    tie.close (tie.spec (λ c κs. search rules) (λ c κs. search rules) (λ c. search rules) (λ c. search rules) (λ c κs. search rules) returns-in_default (λ c κs. search rules) returns)
