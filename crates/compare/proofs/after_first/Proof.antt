@@ -10,40 +10,31 @@ use Rattle.compare.proofs.after_first.Statement.{statement}
 use Rattle.compare.proofs.after_first.Tie as tie
 
 -- the second table passes, too
-second-passes : (c : tie.After-known-told2)
-    → Passes (luma c.before.before.before.before.before.before.args.l) c.before.before.before.before.before.before.args.root c.before.before.before.before.before.before.args.second.now
-second-passes c = let n = c.before in record { flags = _; answer = sym n.before.before.test_table.ensures ∙ n.-flags.given.1 }
+second-passes : (c : tie.In-Accepted)
+    → Passes (luma c.args.l) c.args.root c.args.second.now
+second-passes c = record { flags = _; answer = sym c.test_table.ensures ∙ c.in-Accepted.is }
 
-test-table-requires : tie.Need-test-table-requires
-test-table-requires c κs = c.before.before.requires.0.rooted
+test_table-requires : tie.Need-test_table-requires
+test_table-requires c κs = c.requires.0.rooted
 
-finer-or-equal-requires : tie.Need-finer-or-equal-requires
-finer-or-equal-requires c κs =
-    let st = c.before.before.before.before.before.before in
-    st.requires.0.comparable st.args.first.now st.args.second.now st.requires.1 (second-passes c)
+finer_or_equal-finer-requires : tie.Need-finer_or_equal-finer-requires
+finer_or_equal-finer-requires c κs =
+    c.requires.0.comparable c.args.first.now c.args.second.now c.requires.1 (second-passes c)
 
-finer-or-equal-requires-2 : tie.Need-finer-or-equal-requires-2
-finer-or-equal-requires-2 c κs = turned (finer-or-equal-requires c.before κs)
+finer_or_equal-coarser-requires : tie.Need-finer_or_equal-coarser-requires
+finer_or_equal-coarser-requires c κs = turned (finer_or_equal-finer-requires c.before κs)
 
-returns : tie.Need-returns
-returns c =
-    let n = c.before in
-    let test = n.before.before in
-    let st = test.before.before.before in
-    sym (second_refused (luma st.args.l) st.args.root st.args.first.now st.args.second.now st.requires.1 (sym test.test_table.ensures ∙ n.number.given.1))
+returns-in-Refused : tie.Need-returns-in-Refused
+returns-in-Refused c =
+    sym (second_refused (luma c.args.l) c.args.root c.args.first.now c.args.second.now c.requires.1 (sym c.test_table.ensures ∙ c.in-Refused.is))
 
-returns-2 : tie.Need-returns-2
-returns-2 c =
-    let compared = c.before in
-    let coarser = compared.before in
-    let finer = coarser.before in
-    let told = finer.before in
-    let st = told.before.before.before.before.before.before in
-    let number : c.number2.result ≡ finer_number (finer_by finer.finer-or-equal.result coarser.finer-or-equal2.result) = c.number2.ensures ∙ ap finer_number compared.compared.ensures in
-    let accepted = both-accepted (luma st.args.l) st.args.root st.args.first.now st.args.second.now st.requires.1 (second-passes told) in
-    ap Accepted number ∙ ap₂ (λ a b. Accepted (finer_number (finer_by a b))) finer.finer-or-equal.ensures coarser.finer-or-equal2.ensures ∙ sym accepted
+returns-in-Accepted : tie.Need-returns-in-Accepted
+returns-in-Accepted c =
+    let number : c.number.result ≡ finer_number (finer_by c.finer_or_equal-finer.result c.finer_or_equal-coarser.result) = c.number.ensures ∙ ap finer_number c.compared.ensures in
+    let accepted = both-accepted (luma c.args.l) c.args.root c.args.first.now c.args.second.now c.requires.1 (second-passes c.before.before.before.before) in
+    ap Accepted number ∙ ap₂ (λ a b. Accepted (finer_number (finer_by a b))) c.finer_or_equal-finer.ensures c.finer_or_equal-coarser.ensures ∙ sym accepted
 
-pub after-first-spec : {M : Type 1} → statement M
-after-first-spec =
+pub after_first_spec : {M : Type 1} → statement M
+after_first_spec =
     tie.close
-    (tie.spec test-table-requires (λ c. search rules) (λ c. search rules) finer-or-equal-requires finer-or-equal-requires-2 (λ c κs. search rules) (λ c κs. search rules) returns returns-2)
+    (tie.spec test_table-requires (λ c. search rules) (λ c. search rules) finer_or_equal-finer-requires finer_or_equal-coarser-requires (λ c κs. search rules) (λ c κs. search rules) returns-in-Refused returns-in-Accepted)

@@ -8,33 +8,27 @@ use Rattle.compare.proofs.compare_rows.Statement.{statement}
 use Rattle.compare.proofs.compare_rows.Tie as tie
 
 -- the first table passes
-first_passes : (c : tie.After-known-told2)
-    → Passes (luma c.before.before.before.before.before.before.args.l) c.before.before.before.before.before.before.args.root c.before.before.before.before.before.before.args.first.now
-first_passes c = let n = c.before in record { flags = _; answer = sym n.before.before.test_table.ensures ∙ n.-flags.given.1 }
+first_passes : (c : tie.In-Accepted)
+    → Passes (luma c.args.l) c.args.root c.args.first.now
+first_passes c = record { flags = _; answer = sym c.test_table.ensures ∙ c.in-Accepted.is }
 
-test-table-requires : tie.Need-test-table-requires
-test-table-requires c κs = c.before.before.requires.rooted
+test_table-requires : tie.Need-test_table-requires
+test_table-requires c κs = c.requires.rooted
 
-after-first-requires : tie.Need-after-first-requires
-after-first-requires c κs = let told = c.before.before in (told.before.before.before.before.before.before.requires, first_passes told)
+after_first-requires : tie.Need-after_first-requires
+after_first-requires c κs = (c.requires, first_passes c.before.before)
 
-returns : tie.Need-returns
-returns c =
-    let n = c.before in
-    let test = n.before.before in
-    let a = test.before.before.before.args in
-    sym (first_refused (luma a.l) a.root a.first.now a.second.now (sym test.test_table.ensures ∙ n.number.given.1))
+returns-in-Refused : tie.Need-returns-in-Refused
+returns-in-Refused c =
+    let a = c.args in
+    sym (first_refused (luma a.l) a.root a.first.now a.second.now (sym c.test_table.ensures ∙ c.in-Refused.is))
 
-returns-2 : tie.Need-returns-2
-returns-2 c =
-    let t = c.before in
-    let s = t.before in
-    let told = s.before in
-    let st = told.before.before.before.before.before.before in
-    let same = s.same-table.ensures.yes t.if1.true in
-    ap Accepted c.number2.ensures ∙ sym (same_equal st.requires st.args.first.now st.args.second.now (first_passes told) same.0 same.1)
+returns-then-same_table : tie.Need-returns-then-same_table
+returns-then-same_table c =
+    let same = c.same_table.ensures.yes c.if-same_table.true in
+    ap Accepted c.number.ensures ∙ sym (same_equal c.requires c.args.first.now c.args.second.now (first_passes c.before.before.before) same.0 same.1)
 
-pub compare-rows-spec : {M : Type 1} → statement M
-compare-rows-spec =
+pub compare_rows_spec : {M : Type 1} → statement M
+compare_rows_spec =
     tie.close
-    (tie.spec test-table-requires (λ c. search rules) (λ c. search rules) (λ c κs. search rules) (λ c κs. search rules) after-first-requires returns returns-2 (λ c. search rules))
+    (tie.spec test_table-requires (λ c. search rules) (λ c. search rules) (λ c κs. search rules) (λ c κs. search rules) after_first-requires returns-in-Refused returns-then-same_table (λ c. search rules))

@@ -6,17 +6,13 @@ use Rattle.h265settings.proofs.Sound.{usable}
 use Rattle.h265.proofs.read_unit.Statement.{statement}
 use Rattle.h265.proofs.read_unit.Tie as tie
 
-read-checked-requires : tie.Need-read-checked-requires
-read-checked-requires c κs =
-    let lu = c.before in
-    let re = lu.before in
-    rw lu.as-luma.ensures (usable_checked (λ e. usable (passed re.before.before.before.args.s (sym re.refusal.ensures ∙ e))))
+read_checked-requires : tie.Need-read_checked-requires
+read_checked-requires c κs =
+    rw c.as_luma.ensures (usable_checked (λ e. usable (passed c.args.s (sym c.refusal-refusal.ensures ∙ e))))
 
 returns : tie.Need-returns
 returns c =
-    let rc = c.before.before in
-    let lu = rc.before.before in
-    rw (lu.as-luma.ensures, lu.before.refusal.ensures) at rc.read-checked.ensures
+    rw (c.as_luma.ensures, c.refusal-refusal.ensures) at c.read_checked.ensures
 
-pub read-unit-spec : {M : Type 1} → statement M
-read-unit-spec = tie.close (tie.spec (λ c κs. search rules) (λ c κs. search rules) read-checked-requires (λ c. search rules) returns)
+pub read_unit_spec : {M : Type 1} → statement M
+read_unit_spec = tie.close (tie.spec (λ c κs. search rules) (λ c κs. search rules) read_checked-requires (λ c. search rules) returns)

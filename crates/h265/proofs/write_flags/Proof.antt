@@ -6,17 +6,13 @@ use Rattle.h265settings.proofs.Sound.{usable}
 use Rattle.h265.proofs.write_flags.Statement.{statement}
 use Rattle.h265.proofs.write_flags.Tie as tie
 
-write-checked-requires : tie.Need-write-checked-requires
-write-checked-requires c κs =
-    let lu = c.before in
-    let re = lu.before in
-    rw lu.as-luma.ensures (usable_checked (λ e. usable (passed re.before.before.before.args.s (sym re.refusal.ensures ∙ e))))
+write_checked-requires : tie.Need-write_checked-requires
+write_checked-requires c κs =
+    rw c.as_luma.ensures (usable_checked (λ e. usable (passed c.args.s (sym c.refusal-refusal.ensures ∙ e))))
 
 returns : tie.Need-returns
 returns c =
-    let rc = c.before.before in
-    let lu = rc.before.before in
-    rw (lu.as-luma.ensures, lu.before.refusal.ensures) at rc.write_checked.ensures
+    rw (c.as_luma.ensures, c.refusal-refusal.ensures) at c.write_checked.ensures
 
-pub write-flags-spec : {M : Type 1} → statement M
-write-flags-spec = tie.close (tie.spec (λ c κs. search rules) (λ c κs. search rules) write-checked-requires (λ c. search rules) returns)
+pub write_flags_spec : {M : Type 1} → statement M
+write_flags_spec = tie.close (tie.spec (λ c κs. search rules) (λ c κs. search rules) write_checked-requires (λ c. search rules) returns)

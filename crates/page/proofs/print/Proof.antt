@@ -4,30 +4,26 @@ use Rattle.page.proofs.Passing.{page_short, page_done}
 use Rattle.page.proofs.print.Statement.{statement}
 use Rattle.page.proofs.print.Tie as tie
 
-mul-n : tie.Need-overflow-mul-n
-mul-n c = search rules
+overflow_mul-n : tie.Need-overflow_mul-n
+overflow_mul-n c = search rules
+
+returns-then-page-n : tie.Need-returns-then-page-n
+returns-then-page-n c =
+    page_short c.args.address c.args.rows.now c.args.page.now c.requires.0 c.requires.2 _ refl c.if-page-n.true
+
+overflow_cast-address : tie.Need-overflow_cast-address
+overflow_cast-address c = search rules
+
+put_lines-requires : tie.Need-put_lines-requires
+put_lines-requires c κs = search rules
+
+shape_of-page : tie.Need-shape_of-page
+shape_of-page c = search rules
 
 returns : tie.Need-returns
 returns c =
-    let st = c.before.before.before in
-    page_short st.args.address st.args.rows.now st.args.page.now st.requires.0 st.requires.2 _ refl c.if1.true
+    page_done c.args.address c.args.rows.now c.args.page.now c.requires.0 c.requires.2 _ refl c.if-page-n.false c.put_lines.ensures
 
-cast-put-lines : tie.Need-overflow-cast-put-lines
-cast-put-lines c = search rules
-
-put-lines-requires : tie.Need-put-lines-requires
-put-lines-requires c κs = search rules
-
-same_length : tie.Need-same-length
-same_length c = search rules
-
-returns-2 : tie.Need-returns-2
-returns-2 c =
-    let put = c.before.before in
-    let room = put.before.before in
-    let st = room.before.before.before in
-    page_done st.args.address st.args.rows.now st.args.page.now st.requires.0 st.requires.2 _ refl room.if1.false put.put-lines.ensures
-
-pub print-spec : {M : Type 1} → statement M
-print-spec =
-    tie.close (tie.spec mul-n returns cast-put-lines put-lines-requires same_length returns-2)
+pub print_spec : {M : Type 1} → statement M
+print_spec =
+    tie.close (tie.spec overflow_mul-n returns-then-page-n overflow_cast-address put_lines-requires shape_of-page returns)

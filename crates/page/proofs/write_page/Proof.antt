@@ -4,48 +4,41 @@ use Rattle.page.proofs.Passing.{accepted_rows, page_refused, page_printed}
 use Rattle.page.proofs.write_page.Statement.{statement}
 use Rattle.page.proofs.write_page.Tie as tie
 
-test-unit-requires : tie.Need-test-unit-requires
-test-unit-requires c κs = search rules
+test_unit-requires : tie.Need-test_unit-requires
+test_unit-requires c κs = search rules
 
-enum-known-number : tie.Need-enum-known-number
-enum-known-number c = search rules
+enum_known-number : tie.Need-enum_known-number
+enum_known-number c = search rules
 
-enum-known--count : tie.Need-enum-known--count
-enum-known--count c = search rules
+enum_known-_count : tie.Need-enum_known-_count
+enum_known-_count c = search rules
 
 print-requires : tie.Need-print-requires
 print-requires c κs =
-    let n = c.before.before in
-    let test = n.before.before in
-    let a = test.before.before.before.args in
-    accepted_rows a.s a.address a.rows.now (sym test.test-unit.ensures ∙ n.-count.given.1)
+    let a = c.args in
+    accepted_rows a.s a.address a.rows.now (sym c.test_unit.ensures ∙ c.in-Accepted.is)
 
-returns : tie.Need-returns
-returns c =
-    let nu = c.before in
-    let test = nu.before.before in
-    let a = test.before.before.before.args in
-    page_refused a.s a.address a.rows.now a.page.now (sym test.test-unit.ensures ∙ nu.number.given.1)
+returns-in-Refused : tie.Need-returns-in-Refused
+returns-in-Refused c =
+    let a = c.args in
+    page_refused a.s a.address a.rows.now a.page.now (sym c.test_unit.ensures ∙ c.in-Refused.is)
 
-same_length : tie.Need-same-length
-same_length c = search rules
+shape_of-page : tie.Need-shape_of-page
+shape_of-page c = search rules
 
-returns-2 : tie.Need-returns-2
-returns-2 c =
-    let print = c.before.before in
-    let n = print.before.before.before in
-    let test = n.before.before in
-    let a = test.before.before.before.args in
-    page_printed a.s a.address a.rows.now a.page.now (sym test.test-unit.ensures ∙ n.-count.given.1) print.print.ensures
+returns-in-Accepted : tie.Need-returns-in-Accepted
+returns-in-Accepted c =
+    let a = c.args in
+    page_printed a.s a.address a.rows.now a.page.now (sym c.test_unit.ensures ∙ c.in-Accepted.is) c.print.ensures
 
-pub write-page-spec : {M : Type 1} → statement M
-write-page-spec =
+pub write_page_spec : {M : Type 1} → statement M
+write_page_spec =
     tie.close
     (tie.spec
-    test-unit-requires
-    enum-known-number
-    enum-known--count
+    test_unit-requires
+    enum_known-number
+    enum_known-_count
     print-requires
-    returns
-    same_length
-    returns-2)
+    returns-in-Refused
+    shape_of-page
+    returns-in-Accepted)

@@ -10,63 +10,54 @@ use Rattle.compare.proofs.Passing.{from_first, corner_out, corner_in, corner_las
 use Rattle.compare.proofs.tables.corners_inside.Statement.{statement}
 use Rattle.compare.proofs.tables.corners_inside.Tie as tie
 
-abbrev invariant-loop : tie.invariant-loop
-invariant-loop rows map n k₀ k = (k ≤ n) × (corners_inside map (rows_left rows k) ≡ corners_inside map (rows_in rows))
+abbrev invariant-loop-k : tie.invariant-loop-k
+invariant-loop-k rows map n k₀ k = (k ≤ n) × (corners_inside map (rows_left rows k) ≡ corners_inside map (rows_in rows))
 
-abbrev decreases-loop : tie.decreases-loop
-decreases-loop rows map n k₀ k = n - k
+abbrev decreases-loop-k : tie.decreases-loop-k
+decreases-loop-k rows map n k₀ k = n - k
 
-loop-holds : tie.Need-loop-init invariant-loop decreases-loop
-loop-holds c = let a = c.before.args in (zero-le, ap (corners_inside a.map.now) (from_first a.rows.now))
+loop-k-init : tie.Need-loop-k-init invariant-loop-k decreases-loop-k
+loop-k-init c = let a = c.args in (zero-le, ap (corners_inside a.map.now) (from_first a.rows.now))
 
-mul-word-at : tie.Need-overflow-mul-word-at invariant-loop decreases-loop
-mul-word-at c = omega arith
+overflow_mul-k : tie.Need-overflow_mul-k invariant-loop-k decreases-loop-k
+overflow_mul-k c = omega arith
 
-word-at-requires : tie.Need-word-at-requires invariant-loop decreases-loop
-word-at-requires c κs = omega arith
+word_at-row-requires : tie.Need-word_at-row-requires invariant-loop-k decreases-loop-k
+word_at-row-requires c κs = omega arith
 
-at-corner-requires : tie.Need-at-corner-requires invariant-loop decreases-loop
-at-corner-requires c κs = search rules
+at_corner-requires : tie.Need-at_corner-requires invariant-loop-k decreases-loop-k
+at_corner-requires c κs = search rules
 
-inside-requires : tie.Need-inside-requires invariant-loop decreases-loop
+inside-requires : tie.Need-inside-requires invariant-loop-k decreases-loop-k
 inside-requires c κs = search rules
 
 -- what was found of a row
-found : (i : tie.After-inside invariant-loop decreases-loop)
-    → i.inside.result ≡ corner_inside i.before.before.before.before.before.before.args.map.now i.before.before.word_at.result
-found i = i.inside.ensures ∙ ap (λ b. node_inside (node_in i.before.before.word_at.result) (node_in b)) i.before.at-corner.ensures
+found : (i : tie.After-inside invariant-loop-k decreases-loop-k)
+    → i.inside.result ≡ corner_inside i.args.map.now i.word_at-row.result
+found i = i.inside.ensures ∙ ap (λ b. node_inside (node_in i.word_at-row.result) (node_in b)) i.at_corner.ensures
 
-returns : tie.Need-returns invariant-loop decreases-loop
+returns-then-not-inside : tie.Need-returns-then-not-inside invariant-loop-k decreases-loop-k
+returns-then-not-inside c =
+    let a = c.args in
+    sym (corner_out a.rows.now c.loop-k.k c.word_at-row.ensures c.loop-k-test.true a.map.now (found c.before) c.if-not-inside.true-raw) ∙ c.loop-k.invariant.1
+
+overflow_add-k : tie.Need-overflow_add-k invariant-loop-k decreases-loop-k
+overflow_add-k c = omega arith
+
+loop-k-smaller : tie.Need-loop-k-smaller invariant-loop-k decreases-loop-k
+loop-k-smaller c = omega arith
+
+loop-k-preserved : tie.Need-loop-k-preserved invariant-loop-k decreases-loop-k
+loop-k-preserved c =
+    let a = c.args in
+    (omega arith, corner_in a.rows.now c.loop-k.k c.word_at-row.ensures c.loop-k-test.true a.map.now (found c.before) c.if-not-inside.false-raw ∙ c.loop-k.invariant.1)
+
+returns : tie.Need-returns invariant-loop-k decreases-loop-k
 returns c =
-    let i = c.before in
-    let w = i.before.before in
-    let t = w.before in
-    let l = t.before in
-    let a = l.before.before.args in
-    sym (corner_out a.rows.now l.loop.k w.word_at.ensures t.loop-test.true a.map.now (found i) c.if1.true) ∙ l.loop.invariant.1
+    let a = c.args in
+    sym (corner_last a.rows.now c.loop-k.k c.loop-k-test.false a.map.now) ∙ c.loop-k.invariant.1
 
-add-k : tie.Need-overflow-add-k invariant-loop decreases-loop
-add-k c = omega arith
-
-loop-less : tie.Need-loop-smaller invariant-loop decreases-loop
-loop-less c = omega arith
-
-loop-again : tie.Need-loop-preserved invariant-loop decreases-loop
-loop-again c =
-    let i = c.before in
-    let w = i.before.before in
-    let t = w.before in
-    let l = t.before in
-    let a = l.before.before.args in
-    (omega arith, corner_in a.rows.now l.loop.k w.word_at.ensures t.loop-test.true a.map.now (found i) c.if1.false ∙ l.loop.invariant.1)
-
-returns-2 : tie.Need-returns-2 invariant-loop decreases-loop
-returns-2 c =
-    let l = c.before in
-    let a = l.before.before.args in
-    sym (corner_last a.rows.now l.loop.k c.loop-test.false a.map.now) ∙ l.loop.invariant.1
-
-pub corners-inside-spec : {M : Type 1} → statement M
-corners-inside-spec =
+pub corners_inside_spec : {M : Type 1} → statement M
+corners_inside_spec =
     tie.close
-    (tie.spec invariant-loop decreases-loop loop-holds mul-word-at word-at-requires at-corner-requires inside-requires returns add-k loop-less loop-again returns-2)
+    (tie.spec invariant-loop-k decreases-loop-k loop-k-init overflow_mul-k word_at-row-requires at_corner-requires inside-requires returns-then-not-inside overflow_add-k loop-k-smaller loop-k-preserved returns)

@@ -10,52 +10,45 @@ use Rattle.compare.proofs.Passing.{from_first, word-inside, fill_next, fill_last
 use Rattle.compare.proofs.tables.fill_table.Statement.{statement}
 use Rattle.compare.proofs.tables.fill_table.Tie as tie
 
-abbrev invariant-loop : tie.invariant-loop
-invariant-loop map₀ rows n k₀ map k = (k ≤ n) × (length map ≡ 1024) × (filled_by map (rows_left rows k) ≡ filled_by map₀ (rows_in rows))
+abbrev invariant-loop-k : tie.invariant-loop-k
+invariant-loop-k map₀ rows n k₀ map k = (k ≤ n) × (length map ≡ 1024) × (filled_by map (rows_left rows k) ≡ filled_by map₀ (rows_in rows))
 
-abbrev decreases-loop : tie.decreases-loop
-decreases-loop map₀ rows n k₀ map k = n - k
+abbrev decreases-loop-k : tie.decreases-loop-k
+decreases-loop-k map₀ rows n k₀ map k = n - k
 
-loop-holds : tie.Need-loop-init invariant-loop decreases-loop
-loop-holds c = let s = c.before in (zero-le, s.requires.0, ap (filled_by s.args.map.now) (from_first s.args.rows.now))
+loop-k-init : tie.Need-loop-k-init invariant-loop-k decreases-loop-k
+loop-k-init c = (zero-le, c.requires.0, ap (filled_by c.args.map.now) (from_first c.args.rows.now))
 
-mul-word-at : tie.Need-overflow-mul-word-at invariant-loop decreases-loop
-mul-word-at c = omega arith
+overflow_mul-k : tie.Need-overflow_mul-k invariant-loop-k decreases-loop-k
+overflow_mul-k c = omega arith
 
-word-at-requires : tie.Need-word-at-requires invariant-loop decreases-loop
-word-at-requires c κs = omega arith
+word_at-requires : tie.Need-word_at-requires invariant-loop-k decreases-loop-k
+word_at-requires c κs = omega arith
 
-fill-requires : tie.Need-fill-requires invariant-loop decreases-loop
+fill-requires : tie.Need-fill-requires invariant-loop-k decreases-loop-k
 fill-requires c κs =
-    let i = c.before.before in
-    let l = i.before in
-    let s = l.before.before in
-    (l.loop.invariant.1, word-inside s.args.rows.now l.loop.k c.word_at.ensures i.loop-test.true s.requires.1)
+    (c.loop-k.invariant.1, word-inside c.args.rows.now c.loop-k.k c.word_at.ensures c.loop-k-test.true c.requires.1)
 
-add-k : tie.Need-overflow-add-k invariant-loop decreases-loop
-add-k c = omega arith
+overflow_add-k : tie.Need-overflow_add-k invariant-loop-k decreases-loop-k
+overflow_add-k c = omega arith
 
-loop-less : tie.Need-loop-smaller invariant-loop decreases-loop
-loop-less c = omega arith
+loop-k-smaller : tie.Need-loop-k-smaller invariant-loop-k decreases-loop-k
+loop-k-smaller c = omega arith
 
-loop-again : tie.Need-loop-preserved invariant-loop decreases-loop
-loop-again c =
-    let w = c.before in
-    let i = w.before.before in
-    let l = i.before in
-    let bytes = l.before.before.args.rows.now in
-    let inv = l.loop.invariant in (
+loop-k-preserved : tie.Need-loop-k-preserved invariant-loop-k decreases-loop-k
+loop-k-preserved c =
+    let bytes = c.args.rows.now in
+    let inv = c.loop-k.invariant in (
       omega arith,
-      ap length c.fill.ensures ∙ filled_long l.loop.map w.word_at.result ∙ inv.1,
-      ap (λ m. filled_by m (rows_left bytes (l.loop.k + 1))) c.fill.ensures ∙ fill_next bytes l.loop.k w.word_at.ensures i.loop-test.true l.loop.map ∙ inv.2,
+      ap length c.fill.ensures ∙ filled_long c.loop-k.map c.word_at.result ∙ inv.1,
+      ap (λ m. filled_by m (rows_left bytes (c.loop-k.k + 1))) c.fill.ensures ∙ fill_next bytes c.loop-k.k c.word_at.ensures c.loop-k-test.true c.loop-k.map ∙ inv.2,
     )
 
-returns : tie.Need-returns invariant-loop decreases-loop
+returns : tie.Need-returns invariant-loop-k decreases-loop-k
 returns c =
-    let l = c.before in
-    let bytes = l.before.before.args.rows.now in
-    sym (fill_last bytes l.loop.k c.loop-test.false l.loop.map) ∙ l.loop.invariant.2
+    let bytes = c.args.rows.now in
+    sym (fill_last bytes c.loop-k.k c.loop-k-test.false c.loop-k.map) ∙ c.loop-k.invariant.2
 
-pub fill-table-spec : {M : Type 1} → statement M
-fill-table-spec =
-    tie.close (tie.spec invariant-loop decreases-loop loop-holds mul-word-at word-at-requires fill-requires add-k loop-less loop-again returns)
+pub fill_table_spec : {M : Type 1} → statement M
+fill_table_spec =
+    tie.close (tie.spec invariant-loop-k decreases-loop-k loop-k-init overflow_mul-k word_at-requires fill-requires overflow_add-k loop-k-smaller loop-k-preserved returns)

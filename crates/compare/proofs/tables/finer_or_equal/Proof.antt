@@ -10,9 +10,7 @@ use Rattle.compare.proofs.tables.finer_or_equal.Tie as tie
 
 returns : tie.Need-returns
 returns c =
-    let f = c.before.before in
-    let s = f.before.before.before.before in
-    c.corners-inside.ensures ∙ ap (λ m. corners_inside m (rows_in s.args.rows.now)) f.fill-table.ensures ∙ map_finer s.requires (replicate 1024 0) (length-replicate {A = ℕ} 1024 0)
+    c.corners_inside.ensures ∙ ap (λ m. corners_inside m (rows_in c.args.rows.now)) c.fill_table.ensures ∙ map_finer c.requires (replicate 1024 0) (length-replicate {A = ℕ} 1024 0)
 
-pub finer-or-equal-spec : {M : Type 1} → statement M
-finer-or-equal-spec = tie.close (tie.spec (λ c κs. search rules) (λ c κs. search rules) returns)
+pub finer_or_equal_spec : {M : Type 1} → statement M
+finer_or_equal_spec = tie.close (tie.spec (λ c κs. search rules) (λ c κs. search rules) returns)

@@ -7,70 +7,58 @@ use Rattle.compare.proofs.Passing.{AgreeFrom, agree_first, agree_next, differ_at
 use Rattle.compare.proofs.tables.same_table.Statement.{statement}
 use Rattle.compare.proofs.tables.same_table.Tie as tie
 
-abbrev invariant-loop : tie.invariant-loop
-invariant-loop first second n k₀ k = (k ≤ n) × AgreeFrom first second k
+abbrev invariant-loop-k : tie.invariant-loop-k
+invariant-loop-k first second n k₀ k = (k ≤ n) × AgreeFrom first second k
 
-abbrev decreases-loop : tie.decreases-loop
-decreases-loop first second n k₀ k = n - k
+abbrev decreases-loop-k : tie.decreases-loop-k
+decreases-loop-k first second n k₀ k = n - k
 
-returns : tie.Need-returns invariant-loop decreases-loop
-returns c = record { yes = λ e. clash e refl; no = λ e same. c.if1.true (ap length same) }
+returns-then-first-second : tie.Need-returns-then-first-second invariant-loop-k decreases-loop-k
+returns-then-first-second c = record { yes = λ e. clash e refl; no = λ e same. c.if-first-second.true (ap length same) }
 
-loop-holds : tie.Need-loop-init invariant-loop decreases-loop
-loop-holds c = let a = c.before.before.before.args in (zero-le, agree_first a.first.now a.second.now)
+loop-k-init : tie.Need-loop-k-init invariant-loop-k decreases-loop-k
+loop-k-init c = let a = c.args in (zero-le, agree_first a.first.now a.second.now)
 
-mul-word-at : tie.Need-overflow-mul-word-at invariant-loop decreases-loop
-mul-word-at c = omega arith
+overflow_mul-k : tie.Need-overflow_mul-k invariant-loop-k decreases-loop-k
+overflow_mul-k c = omega arith
 
-word-at-requires : tie.Need-word-at-requires invariant-loop decreases-loop
-word-at-requires c κs = omega arith
+word_at-requires : tie.Need-word_at-requires invariant-loop-k decreases-loop-k
+word_at-requires c κs = omega arith
 
-mul-word-at-2 : tie.Need-overflow-mul-word-at-2 invariant-loop decreases-loop
-mul-word-at-2 c = omega arith
+overflow_mul-k-in-loop-k : tie.Need-overflow_mul-k-in-loop-k invariant-loop-k decreases-loop-k
+overflow_mul-k-in-loop-k c = omega arith
 
-word-at-requires-2 : tie.Need-word-at-requires-2 invariant-loop decreases-loop
-word-at-requires-2 c κs = let l = c.before.before.before.if1.false in omega arith
+word_at-requires-in-loop-k : tie.Need-word_at-requires-in-loop-k invariant-loop-k decreases-loop-k
+word_at-requires-in-loop-k c κs = let l = c.if-first-second.false in omega arith
 
-returns-2 : tie.Need-returns-2 invariant-loop decreases-loop
-returns-2 c =
-    let v = c.before in
-    let u = v.before in
-    let t = u.before in
-    let l = t.before in
-    let el = l.before in
-    let a = el.before.before.before.args in
+returns-then-word_at : tie.Need-returns-then-word_at invariant-loop-k decreases-loop-k
+returns-then-word_at c =
+    let a = c.args in
     record {
       yes = λ e. clash e refl;
-      no = λ e. differ_at a.first.now a.second.now l.loop.k t.loop-test.true el.if1.false u.word_at.ensures.0 v.word-at2.ensures.0 c.if2.true;
+      no = λ e. differ_at a.first.now a.second.now c.loop-k.k c.loop-k-test.true c.if-first-second.false c.word_at.ensures.0 c.word_at-in-loop-k.ensures.0 c.if-word_at.true;
     }
 
-add-k : tie.Need-overflow-add-k invariant-loop decreases-loop
-add-k c = omega arith
+overflow_add-k : tie.Need-overflow_add-k invariant-loop-k decreases-loop-k
+overflow_add-k c = omega arith
 
-loop-less : tie.Need-loop-smaller invariant-loop decreases-loop
-loop-less c = omega arith
+loop-k-smaller : tie.Need-loop-k-smaller invariant-loop-k decreases-loop-k
+loop-k-smaller c = omega arith
 
-loop-again : tie.Need-loop-preserved invariant-loop decreases-loop
-loop-again c =
-    let v = c.before in
-    let u = v.before in
-    let t = u.before in
-    let l = t.before in
-    let el = l.before in
-    let a = el.before.before.before.args in
-    (omega arith, agree_next a.first.now a.second.now l.loop.k t.loop-test.true el.if1.false u.word_at.ensures v.word-at2.ensures c.if2.false l.loop.invariant.1)
+loop-k-preserved : tie.Need-loop-k-preserved invariant-loop-k decreases-loop-k
+loop-k-preserved c =
+    let a = c.args in
+    (omega arith, agree_next a.first.now a.second.now c.loop-k.k c.loop-k-test.true c.if-first-second.false c.word_at.ensures c.word_at-in-loop-k.ensures c.if-word_at.false c.loop-k.invariant.1)
 
-returns-3 : tie.Need-returns-3 invariant-loop decreases-loop
-returns-3 c =
-    let l = c.before in
-    let el = l.before in
-    let a = el.before.before.before.args in
+returns : tie.Need-returns invariant-loop-k decreases-loop-k
+returns c =
+    let a = c.args in
     record {
-      yes = λ e. (el.if1.false, agree_all a.first.now a.second.now l.loop.k c.loop-test.false el.if1.false l.loop.invariant.1);
+      yes = λ e. (c.if-first-second.false, agree_all a.first.now a.second.now c.loop-k.k c.loop-k-test.false c.if-first-second.false c.loop-k.invariant.1);
       no = λ e. clash refl e;
     }
 
-pub same-table-spec : {M : Type 1} → statement M
-same-table-spec =
+pub same_table_spec : {M : Type 1} → statement M
+same_table_spec =
     tie.close
-    (tie.spec invariant-loop decreases-loop returns loop-holds mul-word-at word-at-requires mul-word-at-2 word-at-requires-2 returns-2 add-k loop-less loop-again returns-3)
+    (tie.spec invariant-loop-k decreases-loop-k returns-then-first-second loop-k-init overflow_mul-k word_at-requires overflow_mul-k-in-loop-k word_at-requires-in-loop-k returns-then-word_at overflow_add-k loop-k-smaller loop-k-preserved returns)

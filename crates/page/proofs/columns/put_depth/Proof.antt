@@ -7,83 +7,83 @@ use Rattle.page.proofs.Places.{three_columns}
 use Rattle.page.proofs.columns.put_depth.Statement.{statement}
 use Rattle.page.proofs.columns.put_depth.Tie as tie
 
-slice-write-page : tie.Need-slice-write-page
-slice-write-page c = search rules
+bounds-page-at : tie.Need-bounds-page-at
+bounds-page-at c = search rules
 
-add-page : tie.Need-overflow-add-page
-add-page c = search rules
+overflow_add-page : tie.Need-overflow_add-page
+overflow_add-page c = search rules
 
-slice-write-page-2 : tie.Need-slice-write-page-2
-slice-write-page-2 c = simp length-set (omega arith)
+bounds-page-at-then-depth-lt10 : tie.Need-bounds-page-at-then-depth-lt10
+bounds-page-at-then-depth-lt10 c = simp length-set (omega arith)
 
-add-page-2 : tie.Need-overflow-add-page-2
-add-page-2 c = search rules
+overflow_add-page-then-depth-lt10 : tie.Need-overflow_add-page-then-depth-lt10
+overflow_add-page-then-depth-lt10 c = search rules
 
-add-page-3 : tie.Need-overflow-add-page-3
-add-page-3 c = search rules
+overflow_add-page-then-depth-lt10-2 : tie.Need-overflow_add-page-then-depth-lt10-2
+overflow_add-page-then-depth-lt10-2 c = search rules
 
-slice-write-page-3 : tie.Need-slice-write-page-3
-slice-write-page-3 c = simp length-set (omega arith)
+bounds-page-at-then-depth-lt10-2 : tie.Need-bounds-page-at-then-depth-lt10-2
+bounds-page-at-then-depth-lt10-2 c = simp length-set (omega arith)
 
-last-four-requires : tie.Need-last-four-requires
-last-four-requires c κs = search rules
+last_four-text-requires : tie.Need-last_four-text-requires
+last_four-text-requires c κs = search rules
 
-cast-page : tie.Need-overflow-cast-page
-cast-page c = search rules
+overflow_cast-page : tie.Need-overflow_cast-page
+overflow_cast-page c = search rules
 
-slice-write-page-4 : tie.Need-slice-write-page-4
-slice-write-page-4 c = search rules
+bounds-page-at-else-depth-lt10 : tie.Need-bounds-page-at-else-depth-lt10
+bounds-page-at-else-depth-lt10 c = search rules
 
-cast-page-2 : tie.Need-overflow-cast-page-2
-cast-page-2 c = search rules
+overflow_cast-page-else-depth-lt10 : tie.Need-overflow_cast-page-else-depth-lt10
+overflow_cast-page-else-depth-lt10 c = search rules
 
-add-page-4 : tie.Need-overflow-add-page-4
-add-page-4 c = search rules
+overflow_add-page-else-depth-lt10 : tie.Need-overflow_add-page-else-depth-lt10
+overflow_add-page-else-depth-lt10 c = search rules
 
-slice-write-page-5 : tie.Need-slice-write-page-5
-slice-write-page-5 c = simp length-set (omega arith)
+bounds-page-at-else-depth-lt10-2 : tie.Need-bounds-page-at-else-depth-lt10-2
+bounds-page-at-else-depth-lt10-2 c = simp length-set (omega arith)
 
-cast-page-3 : tie.Need-overflow-cast-page-3
-cast-page-3 c = search rules
+overflow_cast-page-else-depth-lt10-2 : tie.Need-overflow_cast-page-else-depth-lt10-2
+overflow_cast-page-else-depth-lt10-2 c = search rules
 
-add-page-5 : tie.Need-overflow-add-page-5
-add-page-5 c = search rules
+overflow_add-page-else-depth-lt10-2 : tie.Need-overflow_add-page-else-depth-lt10-2
+overflow_add-page-else-depth-lt10-2 c = search rules
 
-slice-write-page-6 : tie.Need-slice-write-page-6
-slice-write-page-6 c = simp length-set (omega arith)
+bounds-page-at-else-depth-lt10-3 : tie.Need-bounds-page-at-else-depth-lt10-3
+bounds-page-at-else-depth-lt10-3 c = simp length-set (omega arith)
 
-same_length : tie.Need-same-length
-same_length c = search rules
+shape_of-page-then-depth-lt10 : tie.Need-shape_of-page-then-depth-lt10
+shape_of-page-then-depth-lt10 c = search rules
 
-returns : tie.Need-returns
-returns c = rw (column_one 2 c.before.before.args.depth c.if1.true) (simp towards_suc)
+returns-then-depth-lt10 : tie.Need-returns-then-depth-lt10
+returns-then-depth-lt10 c = rw (column_one 2 c.args.depth c.if-depth-lt10.true) (simp towards_suc)
 
-same-length-2 : tie.Need-same-length-2
-same-length-2 c = search rules
+shape_of-page-else-depth-lt10 : tie.Need-shape_of-page-else-depth-lt10
+shape_of-page-else-depth-lt10 c = search rules
 
-returns-2 : tie.Need-returns-2
-returns-2 c = rw (three_columns c.before.before.before.args.depth c.last_four_lem.result (omega arith) c.last_four_lem.ensures) (simp towards_suc)
+returns-else-depth-lt10 : tie.Need-returns-else-depth-lt10
+returns-else-depth-lt10 c = rw (three_columns c.args.depth c.last_four-text.result (omega arith) c.last_four-text.ensures) (simp towards_suc)
 
-pub put-depth-spec : {M : Type 1} → statement M
-put-depth-spec =
+pub put_depth_spec : {M : Type 1} → statement M
+put_depth_spec =
     tie.close
     (tie.spec
-    slice-write-page
-    add-page
-    slice-write-page-2
-    add-page-2
-    add-page-3
-    slice-write-page-3
-    last-four-requires
-    cast-page
-    slice-write-page-4
-    cast-page-2
-    add-page-4
-    slice-write-page-5
-    cast-page-3
-    add-page-5
-    slice-write-page-6
-    same_length
-    returns
-    same-length-2
-    returns-2)
+    bounds-page-at
+    overflow_add-page
+    bounds-page-at-then-depth-lt10
+    overflow_add-page-then-depth-lt10
+    overflow_add-page-then-depth-lt10-2
+    bounds-page-at-then-depth-lt10-2
+    last_four-text-requires
+    overflow_cast-page
+    bounds-page-at-else-depth-lt10
+    overflow_cast-page-else-depth-lt10
+    overflow_add-page-else-depth-lt10
+    bounds-page-at-else-depth-lt10-2
+    overflow_cast-page-else-depth-lt10-2
+    overflow_add-page-else-depth-lt10-2
+    bounds-page-at-else-depth-lt10-3
+    shape_of-page-then-depth-lt10
+    returns-then-depth-lt10
+    shape_of-page-else-depth-lt10
+    returns-else-depth-lt10)

@@ -5,17 +5,15 @@ use Rattle.page.proofs.columns.put_side.Tie as tie
 side-requires : tie.Need-side-requires
 side-requires c κs = search rules
 
-put-four-requires : tie.Need-put-four-requires
-put-four-requires c κs = search rules
+put_four-requires : tie.Need-put_four-requires
+put_four-requires c κs = search rules
 
-same_length : tie.Need-same-length
-same_length c = search rules
+shape_of-page : tie.Need-shape_of-page
+shape_of-page c = search rules
 
 returns : tie.Need-returns
 returns c =
-    let put = c.before.before in
-    let side = put.before in
-    rw (← side.side.ensures) put.put_four.ensures
+    rw (← c.side.ensures) c.put_four.ensures
 
-pub put-side-spec : {M : Type 1} → statement M
-put-side-spec = tie.close (tie.spec side-requires put-four-requires same_length returns)
+pub put_side_spec : {M : Type 1} → statement M
+put_side_spec = tie.close (tie.spec side-requires put_four-requires shape_of-page returns)

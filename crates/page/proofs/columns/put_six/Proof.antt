@@ -5,49 +5,49 @@ use Rattle.page.proofs.Places.{six_stored}
 use Rattle.page.proofs.columns.put_six.Statement.{statement}
 use Rattle.page.proofs.columns.put_six.Tie as tie
 
-cast-page : tie.Need-overflow-cast-page
-cast-page c = search rules
+overflow_cast-page : tie.Need-overflow_cast-page
+overflow_cast-page c = search rules
 
-slice-write-page : tie.Need-slice-write-page
-slice-write-page c = search rules
+bounds-page-at : tie.Need-bounds-page-at
+bounds-page-at c = search rules
 
-cast-page-2 : tie.Need-overflow-cast-page-2
-cast-page-2 c = search rules
+overflow_cast-page-2 : tie.Need-overflow_cast-page-2
+overflow_cast-page-2 c = search rules
 
-add-page : tie.Need-overflow-add-page
-add-page c = search rules
+overflow_add-page : tie.Need-overflow_add-page
+overflow_add-page c = search rules
 
-slice-write-page-2 : tie.Need-slice-write-page-2
-slice-write-page-2 c = simp length-set (omega arith)
+bounds-page-at-2 : tie.Need-bounds-page-at-2
+bounds-page-at-2 c = simp length-set (omega arith)
 
-add-put-four : tie.Need-overflow-add-put-four
-add-put-four c = search rules
+overflow_add-at : tie.Need-overflow_add-at
+overflow_add-at c = search rules
 
-cast-put-four : tie.Need-overflow-cast-put-four
-cast-put-four c = search rules
+overflow_cast-text : tie.Need-overflow_cast-text
+overflow_cast-text c = search rules
 
-put-four-requires : tie.Need-put-four-requires
-put-four-requires c κs = simp length-set (omega arith)
+put_four-requires : tie.Need-put_four-requires
+put_four-requires c κs = simp length-set (omega arith)
 
-same_length : tie.Need-same-length
-same_length c = simp length-set at c.before.before.put_four.auto.0
+shape_of-page : tie.Need-shape_of-page
+shape_of-page c = simp length-set at c.put_four.auto.page
 
 returns : tie.Need-returns
 returns c =
-    let a = c.before.before.before.before.before.args in
-    six_stored a.page.now a.at a.text c.before.before.put_four.ensures
+    let a = c.args in
+    six_stored a.page.now a.at a.text c.put_four.ensures
 
-pub put-six-spec : {M : Type 1} → statement M
-put-six-spec =
+pub put_six_spec : {M : Type 1} → statement M
+put_six_spec =
     tie.close
     (tie.spec
-    cast-page
-    slice-write-page
-    cast-page-2
-    add-page
-    slice-write-page-2
-    add-put-four
-    cast-put-four
-    put-four-requires
-    same_length
+    overflow_cast-page
+    bounds-page-at
+    overflow_cast-page-2
+    overflow_add-page
+    bounds-page-at-2
+    overflow_add-at
+    overflow_cast-text
+    put_four-requires
+    shape_of-page
     returns)

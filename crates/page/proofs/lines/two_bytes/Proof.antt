@@ -4,39 +4,39 @@ use borrow.Author.Rules.{rules}
 use Rattle.page.proofs.lines.two_bytes.Statement.{statement}
 use Rattle.page.proofs.lines.two_bytes.Tie as tie
 
-shared-slice-read-result : tie.Need-shared-slice-read-result
-shared-slice-read-result c = search rules
+bounds-rows-i : tie.Need-bounds-rows-i
+bounds-rows-i c = search rules
 
-cast-result : tie.Need-overflow-cast-result
-cast-result c = omega (arith, c.shared-slice-known.given c.before.args.i)
+overflow_cast-result : tie.Need-overflow_cast-result
+overflow_cast-result c = omega (arith, c.shared_slice_known-1.given c.args.i)
 
-add-result : tie.Need-overflow-add-result
-add-result c = search rules
+overflow_add-result : tie.Need-overflow_add-result
+overflow_add-result c = search rules
 
-shared-slice-read-result-2 : tie.Need-shared-slice-read-result-2
-shared-slice-read-result-2 c = search rules
+bounds-rows-i-2 : tie.Need-bounds-rows-i-2
+bounds-rows-i-2 c = search rules
 
-cast-result-2 : tie.Need-overflow-cast-result-2
-cast-result-2 c = omega (arith, c.shared-slice-known2.given (c.before.before.args.i + 1))
+overflow_cast-result-2 : tie.Need-overflow_cast-result-2
+overflow_cast-result-2 c = omega (arith, c.shared_slice_known-2-1.given (c.args.i + 1))
 
-mul-result : tie.Need-overflow-mul-result
-mul-result c = omega (arith, c.shared-slice-known2.given (c.before.before.args.i + 1))
+overflow_mul-result : tie.Need-overflow_mul-result
+overflow_mul-result c = omega (arith, c.shared_slice_known-2-1.given (c.args.i + 1))
 
-add-result-2 : tie.Need-overflow-add-result-2
-add-result-2 c = omega (arith, c.before.shared-slice-known.given c.before.before.args.i, c.shared-slice-known2.given (c.before.before.args.i + 1))
+overflow_add-result-2 : tie.Need-overflow_add-result-2
+overflow_add-result-2 c = omega (arith, c.shared_slice_known-1.given c.args.i, c.shared_slice_known-2-1.given (c.args.i + 1))
 
 returns : tie.Need-returns
-returns c = omega (arith, c.before.shared-slice-known.given c.before.before.args.i, c.shared-slice-known2.given (c.before.before.args.i + 1))
+returns c = omega (arith, c.shared_slice_known-1.given c.args.i, c.shared_slice_known-2-1.given (c.args.i + 1))
 
-pub two-bytes-spec : {M : Type 1} → statement M
-two-bytes-spec =
+pub two_bytes_spec : {M : Type 1} → statement M
+two_bytes_spec =
     tie.close
     (tie.spec
-    shared-slice-read-result
-    cast-result
-    add-result
-    shared-slice-read-result-2
-    cast-result-2
-    mul-result
-    add-result-2
+    bounds-rows-i
+    overflow_cast-result
+    overflow_add-result
+    bounds-rows-i-2
+    overflow_cast-result-2
+    overflow_mul-result
+    overflow_add-result-2
     returns)

@@ -3,37 +3,36 @@ use Rattle.page.proofs.Places.{six_columns}
 use Rattle.page.proofs.text.six.Statement.{statement}
 use Rattle.page.proofs.text.six.Tie as tie
 
-first-two-requires : tie.Need-first-two-requires
-first-two-requires c κs = search rules
+first_two-requires : tie.Need-first_two-requires
+first_two-requires c κs = search rules
 
-cast-result : tie.Need-overflow-cast-result
-cast-result c = search rules
+overflow_cast-result : tie.Need-overflow_cast-result
+overflow_cast-result c = search rules
 
-last-four-requires : tie.Need-last-four-requires
-last-four-requires c κs = search rules
+last_four-requires : tie.Need-last_four-requires
+last_four-requires c κs = search rules
 
-cast-result-2 : tie.Need-overflow-cast-result-2
-cast-result-2 c = search rules
+overflow_cast-result-2 : tie.Need-overflow_cast-result-2
+overflow_cast-result-2 c = search rules
 
-mul-result : tie.Need-overflow-mul-result
-mul-result c = search rules
+overflow_mul-result : tie.Need-overflow_mul-result
+overflow_mul-result c = search rules
 
-add-result : tie.Need-overflow-add-result
-add-result c = search rules
+overflow_add-result : tie.Need-overflow_add-result
+overflow_add-result c = search rules
 
 returns : tie.Need-returns
 returns c =
-    let f = c.before.first_two in
-    six_columns c.before.before.args.n f.result c.last_four_lem.result c.before.before.requires f.ensures.1 f.ensures.0 c.last_four_lem.ensures
+    six_columns c.args.n c.first_two.result c.last_four.result c.requires c.first_two.ensures.1 c.first_two.ensures.0 c.last_four.ensures
 
-pub six-spec : {M : Type 1} → statement M
-six-spec =
+pub six_spec : {M : Type 1} → statement M
+six_spec =
     tie.close
     (tie.spec
-    first-two-requires
-    cast-result
-    last-four-requires
-    cast-result-2
-    mul-result
-    add-result
+    first_two-requires
+    overflow_cast-result
+    last_four-requires
+    overflow_cast-result-2
+    overflow_mul-result
+    overflow_add-result
     returns)

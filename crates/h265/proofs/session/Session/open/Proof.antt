@@ -5,16 +5,16 @@ use Rattle.picture.specs.State.{opened_by}
 use Rattle.h265.proofs.session.Session.open.Statement.{statement}
 use Rattle.h265.proofs.session.Session.open.Tie as tie
 
-refusal-requires : tie.Need-refusal-requires
-refusal-requires c κs = search rules
+refusal-number-requires : tie.Need-refusal-number-requires
+refusal-number-requires c κs = search rules
+
+returns-then-number-ne0 : tie.Need-returns-then-number-ne0
+unfolding opened_by
+returns-then-number-ne0 c = rw (← c.refusal-number.ensures, ne_eqb _ 0 c.if-number-ne0.true)
 
 returns : tie.Need-returns
 unfolding opened_by
-returns c = rw (← c.before.refusal.ensures, ne_eqb _ 0 c.if1.true)
-
-returns-2 : tie.Need-returns-2
-unfolding opened_by
-returns-2 c = rw (← c.before.refusal.ensures, eq-eqb _ 0 c.if1.false)
+returns c = rw (← c.refusal-number.ensures, eq-eqb _ 0 c.if-number-ne0.false)
 
 pub open_spec : {M : Type 1} → statement M
-open_spec = tie.close (tie.spec refusal-requires returns returns-2)
+open_spec = tie.close (tie.spec refusal-number-requires returns-then-number-ne0 returns)

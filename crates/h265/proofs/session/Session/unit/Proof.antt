@@ -17,37 +17,28 @@ returned-requires : tie.Need-returned-requires
 returned-requires c κs = not-accepted _ _ _
 
 -- a due address is small
-due-small : (c : tie.After-enum-told) → c.before.before.before.before.before.before.before.args.self.due < 1048576
+due-small : (c : tie.In-Due) → c.args.self.due < 1048576
 due-small c =
-    let st = c.before.before in
-    let uc = st.before in
-    let a = uc.before.before.before.before.args in
-    let d = found_due (units_of a.self.settings) a.self.due (call a.address a.flags.now a.rows.now) uc.unit-count.ensures st.state-at.ensures c.enum_told.given.1 in
+    let a = c.args in
+    let d = found_due (units_of a.self.settings) a.self.due (call a.address a.flags.now a.rows.now) c.unit_count.ensures c.state_at.ensures c.in-Due.is in
     let m = count_most (gridded (passed a.self.settings d.passed)) in
     let l = d.below in
     omega arith
 
-returned-requires-2 : tie.Need-returned-requires-2
-returned-requires-2 c κs = λ count e. due-small c.before.before.before.before
+returned-requires-in-Due : tie.Need-returned-requires-in-Due
+returned-requires-in-Due c κs = λ count e. due-small c.before.before.before.before
 
-returns : tie.Need-returns
-returns c =
-    let n = c.before.before in
-    let st = n.before.before in
-    let uc = st.before in
-    let a = uc.before.before.before.before.args in
-    state_refused (units_of a.self.settings) a.self.due (call a.address a.flags.now a.rows.now) uc.unit-count.ensures st.state-at.ensures (returned a.self)
-    n.number.given.1 c.returned.ensures refl
+returns-in-Refused : tie.Need-returns-in-Refused
+returns-in-Refused c =
+    let a = c.args in
+    state_refused (units_of a.self.settings) a.self.due (call a.address a.flags.now a.rows.now) c.unit_count.ensures c.state_at.ensures (returned a.self)
+    c.in-Refused.is c.returned.ensures refl
 
-returns-2 : tie.Need-returns-2
-returns-2 c =
-    let ru = c.before.before.before in
-    let d = ru.before.before in
-    let st = d.before.before in
-    let uc = st.before in
-    let a = uc.before.before.before.before.args in
-    unit_read (units_of a.self.settings) a.self.due (call a.address a.flags.now a.rows.now) uc.unit-count.ensures st.state-at.ensures (returned a.self)
-    d.enum_told.given.1 ru.read_unit_fault.ensures c.returned2.ensures
+returns-in-Due : tie.Need-returns-in-Due
+returns-in-Due c =
+    let a = c.args in
+    unit_read (units_of a.self.settings) a.self.due (call a.address a.flags.now a.rows.now) c.unit_count.ensures c.state_at.ensures (returned a.self)
+    c.in-Due.is c.read_unit.ensures c.returned-in-Due.ensures
 
 pub unit_spec : {M : Type 1} → statement M
 unit_spec =
@@ -59,7 +50,7 @@ unit_spec =
     returned-requires
     (λ c. search rules)
     (λ c κs. search rules)
-    returned-requires-2
-    returns
+    returned-requires-in-Due
+    returns-in-Refused
     (λ c. search rules)
-    returns-2)
+    returns-in-Due)
