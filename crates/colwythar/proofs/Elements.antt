@@ -1,4 +1,4 @@
--- What the walks over a slice of accounts share: numbers, a test's outcome, and a list whose first elements are done.
+-- A list whose first elements are done, for the loop that clears a list of accounts.
 use mathlib.Core.Path.{◌≡◌, refl, ◌∙◌, ap}
 use Prim.Native.Nat.{ℕ, zero, suc, ◌+◌, ◌*◌, ◌-◌, ◌<◌, ◌^◌}
 use native.Mathlib.Nat.{add-zero, add-suc, not-suc-le-zero, le_of_suc-le-suc}
@@ -7,31 +7,14 @@ use mathlib.Core.Bool.{Bool, true, false}
 use mathlib.Core.List.{List, [], ◌∷◌, map}
 use lib.ListN.{length, get_or, set}
 
--- the byte offset of element i of n fits a usize
-pub scaled : (i n : ℕ) → i < n → n * 8 < 2 ^ 63 → i * 8 < 2 ^ 64
-scaled i n h r = omega arith
-
-pub next_fits : (i n : ℕ) → i < n → n < 2 ^ 64 → i + 1 < 2 ^ 64
-next_fits i n h r = omega arith
-
 pub one_more : (i : ℕ) → i + 1 ≡ suc i
 one_more i = add-suc i zero ∙ ap suc (add-zero i)
-
--- a test comes out one way or the other
-pub either {ℓ} : {X : Type ℓ} (t : Bool) → (t ≡ true → X) → (t ≡ false → X) → X
-either true f g = f refl
-either false f g = g refl
 
 -- ---- the list of which f is done at the first i elements
 abbrev pub firsts : {A : Type 0} → (A → A) → ℕ → List A → List A
 firsts f zero ys = ys
 firsts f (suc i) [] = []
 firsts f (suc i) (y ∷ ys) = f y ∷ firsts f i ys
-
-pub length_firsts : {A : Type 0} (f : A → A) (i : ℕ) (ys : List A) → length (firsts f i ys) ≡ length ys
-length_firsts f zero ys = refl
-length_firsts f (suc i) [] = refl
-length_firsts f (suc i) (y ∷ ys) = ap suc (length_firsts f i ys)
 
 -- one more element is done
 pub firsts_set : {A : Type 0} (f : A → A) (i : ℕ) (ys : List A) (d r : A) → i < length ys → r ≡ f (get_or (firsts f i ys) i d) → set (firsts f i ys) i r ≡ firsts f (suc i) ys

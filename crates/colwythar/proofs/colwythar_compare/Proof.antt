@@ -6,7 +6,7 @@ use Rattle.colwythar.proofs.colwythar_compare.Statement.{statement}
 use Rattle.colwythar.proofs.colwythar_compare.Tie as tie
 
 returns : tie.Need-returns
-returns c = c.put-answer.ensures ∙ ap answer_words c.before.before.tables-compared.ensures
+returns c = c.put_answer.ensures ∙ ap answer_words c.tables_compared-a.ensures
 
-pub colwythar-compare-spec : {M : Type 1} → statement M
-colwythar-compare-spec = tie.close (tie.spec (λ c κs. search rules) (λ c κs. search rules) returns)
+pub colwythar_compare_spec : {M : Type 1} → statement M
+colwythar_compare_spec = tie.close (tie.spec (λ c κs. search rules) (λ c κs. search rules) returns)

@@ -6,31 +6,27 @@ use Rattle.colwythar.proofs.Passing.{opened_to}
 use Rattle.colwythar.proofs.colwythar_open.Statement.{statement}
 use Rattle.colwythar.proofs.colwythar_open.Tie as tie
 
-from-words-requires : tie.Need-from-words-requires
-from-words-requires c κs = search rules
+from_words-requires : tie.Need-from_words-requires
+from_words-requires c κs = search rules
 
-open-requires : tie.Need-open-requires
-open-requires c κs = search rules
+open-opened-requires : tie.Need-open-opened-requires
+open-opened-requires c κs = search rules
 
-due-after-requires : tie.Need-due-after-requires
-due-after-requires c κs = search rules
+due_after-requires : tie.Need-due_after-requires
+due_after-requires c κs = search rules
 
 number-requires : tie.Need-number-requires
 number-requires c κs = search rules
 
-cast-t6 : tie.Need-overflow-cast-t6
-cast-t6 c = search rules
+overflow_cast-answer : tie.Need-overflow_cast-answer
+overflow_cast-answer c = search rules
 
 returns : tie.Need-returns
 returns c =
-    let number = c.before in
-    let due = number.before in
-    let known = due.before.before in
-    let set = known.before in
-    let a = set.before.args in
-    opened_to set.from-words.ensures opening opened_number (λ o. due_after o a.due.now) known.«open».ensures number.number.ensures due.due-after.ensures
+    let a = c.args in
+    opened_to c.from_words.ensures opening opened_number (λ o. due_after o a.due.now) c.open-opened.ensures c.number.ensures c.due_after.ensures
 
-pub colwythar-open-spec : {M : Type 1} → statement M
-colwythar-open-spec =
+pub colwythar_open_spec : {M : Type 1} → statement M
+colwythar_open_spec =
     tie.close
-    (tie.spec from-words-requires open-requires due-after-requires number-requires cast-t6 returns)
+    (tie.spec from_words-requires open-opened-requires due_after-requires number-requires overflow_cast-answer returns)

@@ -5,26 +5,24 @@ use Rattle.colwythar.proofs.Passing.{passed_on}
 use Rattle.colwythar.proofs.colwythar_page.Statement.{statement}
 use Rattle.colwythar.proofs.colwythar_page.Tie as tie
 
-from-words-requires : tie.Need-from-words-requires
-from-words-requires c κs = search rules
+from_words-s-requires : tie.Need-from_words-s-requires
+from_words-s-requires c κs = search rules
 
-write-page-requires : tie.Need-write-page-requires
-write-page-requires c κs = search rules
+write_page-a-requires : tie.Need-write_page-a-requires
+write_page-a-requires c κs = search rules
 
-put-answer-requires : tie.Need-put-answer-requires
-put-answer-requires c κs = search rules
+put_answer-requires : tie.Need-put_answer-requires
+put_answer-requires c κs = search rules
 
-same_length : tie.Need-same-length
-same_length c = search rules
+shape_of-page : tie.Need-shape_of-page
+shape_of-page c = search rules
 
 returns : tie.Need-returns
 returns c =
-    let printed = c.before.before.before.before in
-    let set = printed.before.before in
-    let a = set.before.before.before.args in
-    passed_on set.from-words.ensures (λ s. write_page s a.address a.rows.now a.page.now) printed.write-page.ensures c.put-answer.ensures
+    let a = c.args in
+    passed_on c.from_words-s.ensures (λ s. write_page s a.address a.rows.now a.page.now) c.write_page-a.ensures c.put_answer.ensures
 
-pub colwythar-page-spec : {M : Type 1} → statement M
-colwythar-page-spec =
+pub colwythar_page_spec : {M : Type 1} → statement M
+colwythar_page_spec =
     tie.close
-    (tie.spec from-words-requires write-page-requires put-answer-requires same_length returns)
+    (tie.spec from_words-s-requires write_page-a-requires put_answer-requires shape_of-page returns)

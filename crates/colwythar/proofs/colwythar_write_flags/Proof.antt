@@ -5,26 +5,24 @@ use Rattle.colwythar.proofs.Passing.{passed_on}
 use Rattle.colwythar.proofs.colwythar_write_flags.Statement.{statement}
 use Rattle.colwythar.proofs.colwythar_write_flags.Tie as tie
 
-from-words-requires : tie.Need-from-words-requires
-from-words-requires c κs = search rules
+from_words-s-requires : tie.Need-from_words-s-requires
+from_words-s-requires c κs = search rules
 
-write-flags-requires : tie.Need-write-flags-requires
-write-flags-requires c κs = search rules
+write_flags-a-requires : tie.Need-write_flags-a-requires
+write_flags-a-requires c κs = search rules
 
-put-answer-requires : tie.Need-put-answer-requires
-put-answer-requires c κs = search rules
+put_answer-requires : tie.Need-put_answer-requires
+put_answer-requires c κs = search rules
 
-same_length : tie.Need-same-length
-same_length c = search rules
+shape_of-flags : tie.Need-shape_of-flags
+shape_of-flags c = search rules
 
 returns : tie.Need-returns
 returns c =
-    let turned = c.before.before.before.before in
-    let set = turned.before.before in
-    let a = set.before.before.before.args in
-    passed_on set.from-words.ensures (λ s. write_flags s a.address a.rows.now a.flags.now) turned.write-flags.ensures c.put-answer.ensures
+    let a = c.args in
+    passed_on c.from_words-s.ensures (λ s. write_flags s a.address a.rows.now a.flags.now) c.write_flags-a.ensures c.put_answer.ensures
 
-pub colwythar-write-flags-spec : {M : Type 1} → statement M
-colwythar-write-flags-spec =
+pub colwythar_write_flags_spec : {M : Type 1} → statement M
+colwythar_write_flags_spec =
     tie.close
-    (tie.spec from-words-requires write-flags-requires put-answer-requires same_length returns)
+    (tie.spec from_words-s-requires write_flags-a-requires put_answer-requires shape_of-flags returns)

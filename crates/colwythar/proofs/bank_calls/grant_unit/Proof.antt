@@ -15,15 +15,13 @@ use Rattle.colwythar.proofs.bank_calls.grant_unit.Tie as tie
 
 returns : tie.Need-returns
 returns c =
-    let gr = c.before.before.before.before.before.before.before in
-    let fw = gr.before.before.before in
-    let a = fw.before.before.before.args in
+    let a = c.args in
     let outcome : Settings → Outcome = λ s. on_account a.left a.own a.rows.now (call_in (units_of s) a.due.now (call a.address a.flags.now a.rows.now)) in
-    let e = fw.from-words.ensures in
+    let e = c.from_words.ensures in
     record {
-      follows = moved_on e outcome (λ s. returned (record { settings = s; due = a.due.now })) (λ (r : Called). r.session.due) (λ (r : Called). r.answer) (λ x y. (refl, refl)) gr.grant.ensures.called c.before.put-answer.ensures;
-      account = gr.grant.ensures.account ∙ ap (λ (s : Settings). charged a.own (outcome s).answer) e;
+      follows = moved_on e outcome (λ s. returned (record { settings = s; due = a.due.now })) (λ (r : Called). r.session.due) (λ (r : Called). r.answer) (λ x y. (refl, refl)) c.grant-granted.ensures.called c.put_answer.ensures;
+      account = c.grant-granted.ensures.account ∙ ap (λ (s : Settings). charged a.own (outcome s).answer) e;
     }
 
-pub grant-unit-spec : {M : Type 1} → statement M
-grant-unit-spec = tie.close (tie.spec (λ c κs. search rules) (λ c κs. search rules) (λ c κs. search rules) (λ c. search rules) returns)
+pub grant_unit_spec : {M : Type 1} → statement M
+grant_unit_spec = tie.close (tie.spec (λ c κs. search rules) (λ c κs. search rules) (λ c κs. search rules) (λ c. search rules) returns)

@@ -5,26 +5,24 @@ use Rattle.colwythar.proofs.Passing.{passed_on}
 use Rattle.colwythar.proofs.h265_calls.colwythar_h265_read_unit.Statement.{statement}
 use Rattle.colwythar.proofs.h265_calls.colwythar_h265_read_unit.Tie as tie
 
-from-words-requires : tie.Need-from-words-requires
-from-words-requires c κs = search rules
+from_words-s-requires : tie.Need-from_words-s-requires
+from_words-s-requires c κs = search rules
 
-read-unit-requires : tie.Need-read-unit-requires
-read-unit-requires c κs = search rules
+read_unit-a-requires : tie.Need-read_unit-a-requires
+read_unit-a-requires c κs = search rules
 
-put-answer-requires : tie.Need-put-answer-requires
-put-answer-requires c κs = search rules
+put_answer-requires : tie.Need-put_answer-requires
+put_answer-requires c κs = search rules
 
-same_length : tie.Need-same-length
-same_length c = search rules
+shape_of-rows : tie.Need-shape_of-rows
+shape_of-rows c = search rules
 
 returns : tie.Need-returns
 returns c =
-    let read = c.before.before.before.before in
-    let set = read.before.before in
-    let a = set.before.before.before.args in
-    passed_on set.from-words.ensures (λ s. read_unit s a.address a.flags.now a.rows.now) read.read_unit_fault.ensures c.put-answer.ensures
+    let a = c.args in
+    passed_on c.from_words-s.ensures (λ s. read_unit s a.address a.flags.now a.rows.now) c.read_unit-a.ensures c.put_answer.ensures
 
-pub colwythar-h265-read-unit-spec : {M : Type 1} → statement M
-colwythar-h265-read-unit-spec =
+pub colwythar_h265_read_unit_spec : {M : Type 1} → statement M
+colwythar_h265_read_unit_spec =
     tie.close
-    (tie.spec from-words-requires read-unit-requires put-answer-requires same_length returns)
+    (tie.spec from_words-s-requires read_unit-a-requires put_answer-requires shape_of-rows returns)

@@ -9,25 +9,23 @@ use Rattle.colwythar.proofs.Passing.{moved_on}
 use Rattle.colwythar.proofs.h265_calls.colwythar_h265_unit.Statement.{statement}
 use Rattle.colwythar.proofs.h265_calls.colwythar_h265_unit.Tie as tie
 
-from-words-requires : tie.Need-from-words-requires
-from-words-requires c κs = search rules
+from_words-requires : tie.Need-from_words-requires
+from_words-requires c κs = search rules
 
-unit-requires : tie.Need-unit-requires
-unit-requires c κs = search rules
+unit-called-requires : tie.Need-unit-called-requires
+unit-called-requires c κs = search rules
 
-put-answer-requires : tie.Need-put-answer-requires
-put-answer-requires c κs = search rules
+put_answer-requires : tie.Need-put_answer-requires
+put_answer-requires c κs = search rules
 
-same_length : tie.Need-same-length
-same_length c = search rules
+shape_of-rows : tie.Need-shape_of-rows
+shape_of-rows c = search rules
 
 returns : tie.Need-returns
 returns c =
-    let called = c.before.before.before.before.before in
-    let set = called.before.before.before in
-    let a = set.before.before.before.args in
-    moved_on set.from-words.ensures (λ s. call_in (units_of s) a.due.now (call a.address a.flags.now a.rows.now)) (λ s. returned (record { settings = s; due = a.due.now })) (λ (r : Called). r.session.due) (λ (r : Called). r.answer) (λ x y. (refl, refl)) called.unit.ensures c.put-answer.ensures
+    let a = c.args in
+    moved_on c.from_words.ensures (λ s. call_in (units_of s) a.due.now (call a.address a.flags.now a.rows.now)) (λ s. returned (record { settings = s; due = a.due.now })) (λ (r : Called). r.session.due) (λ (r : Called). r.answer) (λ x y. (refl, refl)) c.unit-called.ensures c.put_answer.ensures
 
-pub colwythar-h265-unit-spec : {M : Type 1} → statement M
-colwythar-h265-unit-spec =
-    tie.close (tie.spec from-words-requires unit-requires put-answer-requires same_length returns)
+pub colwythar_h265_unit_spec : {M : Type 1} → statement M
+colwythar_h265_unit_spec =
+    tie.close (tie.spec from_words-requires unit-called-requires put_answer-requires shape_of-rows returns)

@@ -5,27 +5,23 @@ use Rattle.colwythar.proofs.Passing.{counted_to}
 use Rattle.colwythar.proofs.h265_calls.colwythar_h265_unit_count.Statement.{statement}
 use Rattle.colwythar.proofs.h265_calls.colwythar_h265_unit_count.Tie as tie
 
-from-words-requires : tie.Need-from-words-requires
-from-words-requires c κs = search rules
+from_words-requires : tie.Need-from_words-requires
+from_words-requires c κs = search rules
 
-unit-count-requires : tie.Need-unit-count-requires
-unit-count-requires c κs = search rules
+unit_count-count-requires : tie.Need-unit_count-count-requires
+unit_count-count-requires c κs = search rules
 
-number-of-requires : tie.Need-number-of-requires
-number-of-requires c κs = search rules
+number_of-requires : tie.Need-number_of-requires
+number_of-requires c κs = search rules
 
-units-of-requires : tie.Need-units-of-requires
-units-of-requires c κs = search rules
+units_of-requires : tie.Need-units_of-requires
+units_of-requires c κs = search rules
 
 returns : tie.Need-returns
 returns c =
-    let units = c.before in
-    let number = units.before in
-    let counted = number.before in
-    let set = counted.before in
-    counted_to set.from-words.ensures count_of counted.unit-count.ensures number.number_of_lem.ensures units.units_of.ensures
+    counted_to c.from_words.ensures count_of c.unit_count-count.ensures c.before.before.number_of.ensures c.units_of.ensures
 
-pub colwythar-h265-unit-count-spec : {M : Type 1} → statement M
-colwythar-h265-unit-count-spec =
+pub colwythar_h265_unit_count_spec : {M : Type 1} → statement M
+colwythar_h265_unit_count_spec =
     tie.close
-    (tie.spec from-words-requires unit-count-requires number-of-requires units-of-requires returns)
+    (tie.spec from_words-requires unit_count-count-requires number_of-requires units_of-requires returns)

@@ -136,7 +136,7 @@ cut_search-returns-in_default-child_answer-3 t c =
 pub cut_search-returns : goal.cut_search-returns
 cut_search-returns t c =
     let last = tried_farther c.split_search-third.ensures (was_refused _ c.child_answer-3.ensures c.in-Refused-child_answer-2.is)
-        c.split_search-fourth.ensures (was_refused _ c.child_answer-4.ensures c.in-Refused-child_answer-3.is) c.farther.ensures in
+    c.split_search-fourth.ensures (was_refused _ c.child_answer-4.ensures c.in-Refused-child_answer-3.is) c.farther.ensures in
     let later = tried_farther c.split_search-second.ensures (was_refused _ c.child_answer-2.ensures c.in-Refused-child_answer.is) last.0 last.1 c.farther-2.ensures in
     (tried_farther c.split_search-first.ensures (was_refused _ c.child_answer.ensures c.in-Refused.is) later.0 later.1 c.farther-3.ensures).0
 
