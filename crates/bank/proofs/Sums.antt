@@ -11,7 +11,7 @@ use lib.ListN.{length, get_or, set}
 use borrow.Author.Tests.{lt-ltb, le-ltb}
 use Rattle.bank.specs.declared.accounts.Account.{Account}
 use Rattle.bank.specs.declared.accounts.Left.{Left}
-use Rattle.bank.specs.Accounts.{none, sum_of, shares, total_use, drawn, exceeded, left_of, held}
+use Rattle.bank.specs.Accounts.{none, sum_of, shares, total_use, drawn, left_of, held}
 use Rattle.bank.specs.Bank.{new_period}
 use Rattle.bank.specs.Steps.{all, left_after}
 

@@ -15,7 +15,6 @@ use Rattle.picture.specs.State.{Call}
 use Rattle.picture.proofs.CallFaults.{opens, call_decides_lem}
 use Rattle.picture.proofs.PipelineOrder.{unit_order}
 use Rattle.picture.proofs.StateCalls.{call_on_the_due}
-use Rattle.h265settings.specs.declared.Settings.{Settings}
 use Rattle.h265settings.specs.Units.{units_of}
 use Rattle.h265settings.proofs.Sound.{h265_sound}
 use Rattle.h265.specs.declared.session.Session.{Session}

@@ -24,7 +24,7 @@ use Rattle.unit.specs.Luma.{limits_of}
 use Rattle.unit.proofs.Sound.{root_of_lem}
 use Rattle.h265settings.specs.Units.{as_luma, units_of}
 use Rattle.h265settings.proofs.Sound.{h265_sound}
-use Rattle.h265.specs.QuadNodes.{Said, QuadNode, QuadNodes}
+use Rattle.h265.specs.QuadNodes.{Said, QuadNodes}
 
 -- the rights of a node without cuts
 abbrev pub quad_rights : Bool → Bool → Rights

@@ -1,13 +1,12 @@
 -- The rules of H.265's settings: what each test tells, and what settings that pass give.
-use Prim.Native.Nat.{ℕ, ◌%◌, ◌≤◌, ◌<◌, max}
-use mathlib.Core.Path.{◌≡◌, refl, sym}
-use mathlib.Core.Bool.{Bool, true, false, cond, not, ◌||◌}
-use mathlib.Core.Logic.{◌⊎◌, inl, inr}
+use Prim.Native.Nat.{ℕ, ◌%◌, max}
+use mathlib.Core.Path.{◌≡◌, refl}
+use mathlib.Core.Bool.{Bool, true, false, cond, ◌||◌}
+use mathlib.Core.Logic.{inl, inr}
 use native.Mathlib.Omega.{arith}
 use lib.Dec.{ltb, eqb}
 use lib.Count.{count_trailing_zeros}
 use borrow.Author.Tests.{eqb-true, eqb-false, eq-eqb, ne_eqb, le-ltb, ltb-false, not-true, not-false}
-use Rattle.sides.specs.Side.{side_from}
 use Rattle.sides.proofs.Bools.{clash, or_none_left, or_none_right}
 use Rattle.sides.proofs.Powers.{Side, side}
 use Rattle.settings.specs.Checks as h266

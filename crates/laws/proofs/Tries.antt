@@ -1,5 +1,5 @@
 -- Decisions that are tried at a node, one after the other: the best of them, one alone, and a leaf.
-use Prim.Native.Nat.{suc, ◌-◌, ◌≤◌}
+use Prim.Native.Nat.{suc, ◌≤◌}
 use mathlib.Core.Path.{◌≡◌, refl, ap, ◌∙◌}
 use mathlib.Core.Bool.{Bool, true, false, cond, ◌&&◌}
 use mathlib.Core.List.{List, [], ◌∷◌}
@@ -14,7 +14,6 @@ use Rattle.tree.specs.Children.{shares, children_from, children}
 use Rattle.tree.specs.Rows.{Row, row_of, own_rows}
 use Rattle.tree.specs.Back.{is_same_row}
 use Rattle.tree.specs.Search.{Fit, whole, stuck, fit_then, better, fit_rows, fit_all, fit_by, fit_any}
-use Rattle.laws.proofs.Agrees.{more}
 use Rattle.laws.proofs.Search.{fit_open, fit_closed}
 
 -- no more rows are left than there were

@@ -13,7 +13,7 @@ use Rattle.sessions.proofs.Order.{raster}
 use Rattle.sessions.proofs.Laws.{Laws}
 use Rattle.sessions.proofs.Demand as sessions
 use Rattle.picture.specs.declared.Session.{Session}
-use Rattle.picture.specs.declared.Opened.TheVariants.{Fresh, Refused}
+use Rattle.picture.specs.declared.Opened.TheVariants.{Fresh}
 use Rattle.picture.specs.State.{Call}
 use Rattle.picture.specs.Session.{opening, unit_call, following}
 use Rattle.picture.specs.OneTree.{greyscale, one_tree}

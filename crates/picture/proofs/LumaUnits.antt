@@ -15,7 +15,7 @@ use Rattle.unit.proofs.Roots.{Root, Usable, usable_root}
 use Rattle.unit.proofs.RoundTrips.{read_there, unit_accepted, flags_back}
 use Rattle.unit.proofs.Sound.{Sound}
 use Rattle.sessions.proofs.Parts.{GoodRoot}
-use Rattle.picture.specs.OneTree.{OneTree, tree_units}
+use Rattle.picture.specs.OneTree.{tree_units}
 use Rattle.picture.proofs.Samples.{unit_tiling}
 use Rattle.picture.proofs.OneTree.{UnitAccepted, UnitLaws}
 

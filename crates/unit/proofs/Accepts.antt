@@ -9,7 +9,7 @@ use borrow.Author.Tests.{lt-ltb, le-ltb, ltb-true}
 use Rattle.tree.specs.Run.{Run, End, goes, stops}
 use Rattle.laws.proofs.Tests.{never}
 use Rattle.unit.specs.declared.Answer.TheVariants.{Accepted, Refused}
-use Rattle.unit.specs.Answers.{Outcome, refused, accepted, deliver, answer_of}
+use Rattle.unit.specs.Answers.{refused, accepted, deliver, answer_of}
 use Rattle.unit.specs.Exactly.{OneOf, AcceptedOr}
 
 module _ (number count : ℕ) (bytes buffer : List ℕ) where

@@ -7,7 +7,7 @@ use lib.ListN.{length}
 use borrow.Author.Tests.{lt-ltb, le-ltb}
 use Rattle.tree.specs.Rows.{Row}
 use Rattle.tree.specs.Run.{End, goes, stops}
-use Rattle.tree.specs.Search.{Fit, whole, stuck}
+use Rattle.tree.specs.Search.{Fit, stuck}
 use Rattle.laws.proofs.Tables.{rows_long}
 use Rattle.unit.specs.Answers.{end_answer}
 use Rattle.unit.specs.Writer.{fit_end}

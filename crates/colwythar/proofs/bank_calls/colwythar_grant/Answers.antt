@@ -1,4 +1,4 @@
-use Rattle.std.proofs.Common.{ℕ, ◌≡◌, ◌+◌, ◌∙◌, refl, sym, ap, length, get_or, arith}
+use Rattle.std.proofs.Common.{ℕ, ◌≡◌, ◌∙◌, ap, length, get_or, arith}
 use Rattle.bank.specs.Accounts.{none}
 use Rattle.bank.specs.Steps.{all, left_after}
 use Rattle.bank.proofs.Sums.{left_to, left_next, left_is}

@@ -1,4 +1,4 @@
-use Rattle.std.proofs.Common.{ℕ, ◌≡◌, ◌+◌, ◌<◌, ◌∙◌, ap, length, get_or, set, length-set, arith}
+use Rattle.std.proofs.Common.{ℕ, ◌≡◌, ◌<◌, ◌∙◌, ap, length, get_or, set, length-set, arith}
 use Rattle.bank.specs.Accounts.{none, cleared}
 use Rattle.colwythar.proofs.Elements.{one_more, firsts, firsts_set, firsts_all}
 use Rattle.colwythar.proofs.bank_calls.colwythar_new_period.Goals as goal

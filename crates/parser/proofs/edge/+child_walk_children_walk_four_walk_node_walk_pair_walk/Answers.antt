@@ -1,4 +1,4 @@
-use Rattle.std.proofs.Common.{ℕ, List, ◌+◌, ◌≡◌, ◌∙◌, refl, sym, ap₂, [], ◌∷◌, arith}
+use Rattle.std.proofs.Common.{ℕ, List, ◌≡◌, ◌∙◌, refl, sym, ap₂, [], ◌∷◌, arith}
 use Rattle.tree.specs.declared.Decision.TheVariants.{Quad}
 use Rattle.tree.specs.declared.Choice.{Choice}
 use Rattle.tree.specs.Splits.{right_out, bottom_out}
@@ -8,7 +8,6 @@ use Rattle.nodes.specs.Tables.{limits_in}
 use Rattle.nodes.specs.RowNodes.{node_in, child_row, out_in}
 use Rattle.walks.specs.Stands.{Word, word, Outer}
 use Rattle.walks.specs.Kids.{four_words, outer_kids}
-use Rattle.walks.specs.Walks.{Asked}
 use Rattle.walks.proofs.Apart.{tested_not, tested_or, was_walked, was_refused}
 use Rattle.walks.proofs.AtEdge.{out_splits_is, edge_gone, handed_asked, handed_walked}
 use Rattle.walks.proofs.Children.{outer_placed}

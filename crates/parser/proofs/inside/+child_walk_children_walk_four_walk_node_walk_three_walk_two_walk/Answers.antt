@@ -1,4 +1,4 @@
-use Rattle.std.proofs.Common.{ℕ, List, ◌+◌, ◌≡◌, ◌≤◌, ◌∙◌, refl, sym, ap, subst, true, false, [], ◌∷◌, length, arith}
+use Rattle.std.proofs.Common.{ℕ, List, ◌≡◌, ◌≤◌, ◌∙◌, refl, sym, ap, subst, true, false, [], ◌∷◌, length, arith}
 use Rattle.tree.specs.declared.Decision.{Decision}
 use Rattle.tree.specs.declared.Decision.TheVariants.{Quad, Binary, Ternary}
 use Rattle.tree.specs.declared.Direction.{Direction}
