@@ -14,6 +14,7 @@ pub enum State {
 }
 
 // The state before a call on the unit at an address, by the count of units and the due address: 22, 20, 21 in this order.
+#[tactic(auto, unfolding(crate::specs::State::state_of))]
 pub fn state_at(count: Count, due: usize, address: usize) -> State
     ensures { result ≡ state_of count due address }
 {

@@ -36,6 +36,7 @@ fn write_all(l: Limits, root: Node, rows: &[u8], flags: &mut [u8]) -> Answer
 }
 
 // The way back of a table of whole rows by a walk, or refusal 15.
+#[tactic(auto, using(crate::proofs::Whole::rows_refused))]
 fn walk_rows(l: Limits, root: Node, rows: &[u8], flags: &mut [u8]) -> Answer
     requires { Rooted (luma l) root }
     ensures { Meets (write_rows (luma l) root rows.now flags.old) result flags.new }
