@@ -27,7 +27,7 @@ use Rattle.nodes.specs.State.{place_of}
 use Rattle.nodes.specs.Tables.{table_of, limits_in}
 use Rattle.nodes.specs.RowNodes.{node_in, out_in}
 use Rattle.walks.specs.Stands.{word, Placed, Inside, Outer}
-use Rattle.walks.proofs.AtEdge.{corner-is, right_is, bottom_is, out_is}
+use Rattle.walks.proofs.AtEdge.{corner_is, right_is, bottom_is, out_is}
 use Rattle.walks.proofs.Open.{inside_rights, out_rights}
 use Rattle.walks.proofs.RowFields.{fits, row_says, width_says, height_says, area_says}
 use Rattle.marks.specs.Table.{rows_left, word_at, Eight}
@@ -188,7 +188,7 @@ module _ {bytes : List ℕ} {u : List ℕ} {c row : ℕ} (more : place_of c + 8 
             let o = at.stands_for in
             record {
               placed = o.placed;
-              here = sym (corner-is at.table o) ∙ begins;
+              here = sym (corner_is at.table o) ∙ begins;
               decides =
                   out_next k.limits n _ _ (is_out_lem at)
                   ∙ ap₂ (λ deeper bottom. cond deeper Quad (cond bottom (Binary Horizontal) (Binary Vertical))) (sym (ap₂ ltb (qt_says o.placed o.row) (next_qt eight))) (sym (bottom_is at.table o))
@@ -199,4 +199,4 @@ module _ {bytes : List ℕ} {u : List ℕ} {c row : ℕ} (more : place_of c + 8 
             → rights_of k n ≡ rights_in true (out_in u row depths (right_out (limits_in u) (node_in row)) (bottom_out (limits_in u) (node_in row)))
         rights_out at =
             let o = at.stands_for in
-            rw (right_is at.table o, bottom_is at.table o, at.table) (out_rights at.proper o (sym (corner-is at.table o) ∙ begins) (is_out_lem at))
+            rw (right_is at.table o, bottom_is at.table o, at.table) (out_rights at.proper o (sym (corner_is at.table o) ∙ begins) (is_out_lem at))

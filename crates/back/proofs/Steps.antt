@@ -26,7 +26,7 @@ use Rattle.walks.specs.Stands.{Word, word, Placed, Inside, Outer}
 use Rattle.walks.specs.Kids.{inner_kids, outer_kids}
 use Rattle.walks.specs.Walks.{Asked, Walked}
 use Rattle.walks.proofs.Apart.{tested_not}
-use Rattle.walks.proofs.AtEdge.{corner-is, right_is, bottom_is, out_is}
+use Rattle.walks.proofs.AtEdge.{corner_is, right_is, bottom_is, out_is}
 use Rattle.walks.proofs.Children.{inside_placed, outer_placed}
 use Rattle.walks.proofs.MaskLaws.{splits_small}
 use Rattle.walks.proofs.One.{Stored, some_case}
@@ -107,18 +107,18 @@ module _ {bytes u marks : List ℕ} {c row bound splits at : ℕ} (asked : Asked
   walked_nothing h = walked_none bytes (Inside bound) u c (word row splits) (λ k n rows at. (at.stands_for.here, at.stands_for.placed)) (omega arith)
 
   -- a row that is not the node's own, and what the marks say
-  module _ (other : own_next bytes c row ≡ false) (there : at < length bytes) {next : ℕ} (word-is : (next ≡ word_at bytes at) × Eight bytes at) {d : Decision} (divides : Divided marks row next at d) where
+  module _ (other : own_next bytes c row ≡ false) (there : at < length bytes) {next : ℕ} (word_is : (next ≡ word_at bytes at) × Eight bytes at) {d : Decision} (divides : Divided marks row next at d) where
     more : place_of c + 8 ≤ length bytes
     more = subst (λ (i : ℕ). i + 8 ≤ length bytes) place (row_there there)
 
     eight : Eight bytes (place_of c)
-    eight = subst (λ (i : ℕ). Eight bytes i) place word-is.1
+    eight = subst (λ (i : ℕ). Eight bytes i) place word_is.1
 
     differs : ¬ (word_at bytes (place_of c) ≡ row)
     differs e = clash (eq-eqb _ _ e) (rw (lt-ltb (place_of c) (length bytes) (omega arith)) at other)
 
     divides_here : Divided marks row (word_at bytes (place_of c)) (place_of c) d
-    divides_here = subst (λ (i : ℕ). Divided marks row (word_at bytes i) i d) place (subst (λ (x : ℕ). Divided marks row x at d) word-is.0 divides)
+    divides_here = subst (λ (i : ℕ). Divided marks row (word_at bytes i) i d) place (subst (λ (x : ℕ). Divided marks row x at d) word_is.0 divides)
 
     pub walked_shut : {ok : Bool} → ok ≡ allows (rights_in false splits) d → not ok ≡ true → {b : List ℕ} → Walked (back_way bytes) (Inside bound) u c (word row splits ∷ []) b (refusal 16 0) b
     walked_shut e h = walked_closed bytes (Inside bound) u c (word row splits) more (split_shut more eight read differs divides_here (tested_not e h))
@@ -139,7 +139,7 @@ module _ {bytes u marks : List ℕ} {c row depths at : ℕ} (asked : Asked (back
   module _ (begins : corner_inside (limits_in u) (node_in row) ≡ true) (out : is_out (limits_in u) (node_in row) ≡ true) where
     -- no row is left
     pub out_nothing : length bytes ≤ at → {b : List ℕ} → Walked (back_way bytes) Outer u c (word row depths ∷ []) b (refusal 16 0) b
-    out_nothing h = walked_none bytes Outer u c (word row depths) (λ k n rows i. (sym (corner-is i.table i.stands_for) ∙ begins, i.stands_for.placed)) (omega arith)
+    out_nothing h = walked_none bytes Outer u c (word row depths) (λ k n rows i. (sym (corner_is i.table i.stands_for) ∙ begins, i.stands_for.placed)) (omega arith)
 
     module _ {splits : ℕ} (e : splits ≡ out_in u row depths (right_out (limits_in u) (node_in row)) (bottom_out (limits_in u) (node_in row))) where
       -- no ternary cut is open there, and one binary cut at most
@@ -148,17 +148,17 @@ module _ {bytes u marks : List ℕ} {c row depths at : ℕ} (asked : Asked (back
           let o = i.stands_for in
           subst (λ (s : ℕ). (has s 8 ≡ false) × (has s 16 ≡ false) × ((has s 2 && has s 4) ≡ false))
           (sym (e ∙ ap₂ (λ x y. out_in u row depths x y) (right_is i.table o) (bottom_is i.table o) ∙ ap (λ t. out_in t row depths (right_out k.limits n) (bottom_out k.limits n)) i.table))
-          (out_one_cut i.proper o (sym (corner-is i.table o) ∙ begins) (ap not (sym (out_is i.table o) ∙ out))))
+          (out_one_cut i.proper o (sym (corner_is i.table o) ∙ begins) (ap not (sym (out_is i.table o) ∙ out))))
 
-      module _ (there : at < length bytes) {next : ℕ} (word-is : (next ≡ word_at bytes at) × Eight bytes at) {bottom : Bool} (b-is : bottom ≡ bottom_out (limits_in u) (node_in row))
+      module _ (there : at < length bytes) {next : ℕ} (word_is : (next ≡ word_at bytes at) × Eight bytes at) {bottom : Bool} (b-is : bottom ≡ bottom_out (limits_in u) (node_in row))
           {d : Decision} (d-is : d ≡ cond (ltb (node_in row).qt (node_in next).qt) Quad (cond bottom (Binary Horizontal) (Binary Vertical))) where
         out_more : place_of c + 8 ≤ length bytes
         out_more = subst (λ (i : ℕ). i + 8 ≤ length bytes) place (out_row_there there)
 
         edge_sees : Sees bytes Outer u c (word row depths) (rights_in true splits) d
         edge_sees = subst (λ (s : ℕ). Sees bytes Outer u c (word row depths) (rights_in true s) d) (sym e)
-            (out_sees out_more (subst (λ (i : ℕ). Eight bytes i) place word-is.1) begins out
-            (d-is ∙ ap₂ (λ x y. cond (ltb (node_in row).qt (node_in x).qt) Quad (cond y (Binary Horizontal) (Binary Vertical))) (word-is.0 ∙ ap (word_at bytes) place) b-is))
+            (out_sees out_more (subst (λ (i : ℕ). Eight bytes i) place word_is.1) begins out
+            (d-is ∙ ap₂ (λ x y. cond (ltb (node_in row).qt (node_in x).qt) Quad (cond y (Binary Horizontal) (Binary Vertical))) (word_is.0 ∙ ap (word_at bytes) place) b-is))
 
         edge_split : is_split d ≡ true
         edge_split = rw d-is (go (ltb (node_in row).qt (node_in next).qt) bottom)

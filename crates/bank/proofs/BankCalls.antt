@@ -22,7 +22,7 @@ use Rattle.bank.specs.Bank.{account_of, grant_in, accounts_after, new_period}
 use Rattle.bank.specs.GrantFaults.{Passes, could_have}
 use Rattle.bank.specs.BankCalls.{grant, BankCall, a_new_period, a_grant, after_call, granted_by, after_calls, granted_in}
 use Rattle.bank.proofs.OnAccount.{within_most}
-use Rattle.bank.proofs.Sums.{sum_set, shares-cleared, use_cleared, drawn-cleared, use_most}
+use Rattle.bank.proofs.Sums.{sum_set, shares_cleared, use_cleared, drawn_cleared, use_most}
 use Rattle.bank.proofs.Grants.{grant_absent}
 use Rattle.bank.proofs.GrantFaults.{BankCase, absent, exceeding, overdrawing, passing, bank_case, grant_exceeding, grant_overdrawing, grant_passing}
 
@@ -68,8 +68,8 @@ module _ (accounts : List Account) (camera n : ℕ) (there : camera < length acc
   fits_granted limit p l =
       let own = account_of accounts camera in
       let s = shares_granted in
-      let r = p.shares-fit in
-      let u = p.drawn-fit in
+      let r = p.shares_fit in
+      let u = p.drawn_fit in
       let m : n ≤ unused own + (common_part limit accounts - drawn accounts) = least_left _ _ _ n l in
       let w = within_part (drawn accounts) (drawn later) (common_part limit accounts) own.share own.used n u m drawn_granted in
       omega arith
@@ -102,8 +102,8 @@ pub kept_period : (limit : ℕ) (accounts : List Account) → Kept limit (shares
 unfolding lists.joined
 kept_period limit accounts =
     let u = use_cleared accounts in
-    let s = shares-cleared accounts in
-    let d = drawn-cleared accounts in
+    let s = shares_cleared accounts in
+    let d = drawn_cleared accounts in
     record { used = u; most = omega arith; shared = s; lasting = length-map accounts cleared; fits = λ l. omega arith }
 
 module _ {limit reserved long : ℕ} {accounts : List Account} {units : List Taken} (kept : Kept limit reserved long accounts units) where

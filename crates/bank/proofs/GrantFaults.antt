@@ -33,9 +33,9 @@ use Rattle.bank.proofs.Grants.{grant_absent, grant_there}
 -- ---- a unit call within so many rows
 
 module _ (could : ℕ) (b : List ℕ) (o : Outcome) where
-  pub within-refused : {number place : ℕ} → o.answer ≡ Refused number place → within could b o ≡ o
+  pub within_refused : {number place : ℕ} → o.answer ≡ Refused number place → within could b o ≡ o
   unfolding within
-  within-refused e = rw e
+  within_refused e = rw e
 
   pub within_fits : {n : ℕ} → o.answer ≡ Accepted n → n ≤ could → within could b o ≡ o
   unfolding within
@@ -61,7 +61,7 @@ module _ (us : Units) (due limit : ℕ) (accounts : List Account) (camera : ℕ)
       go (no h) s d = absent (omega arith)
       go (yes h) (yes s) d = exceeding h s
       go (yes h) (no s) (yes d) = overdrawing h (omega arith) d
-      go (yes h) (no s) (no d) = passing (record { there = h; shares-fit = omega arith; drawn-fit = omega arith })
+      go (yes h) (no s) (no d) = passing (record { there = h; shares_fit = omega arith; drawn_fit = omega arith })
 
   -- 38
   refused_38 : camera < length accounts → exceeded limit accounts ≡ true → grant_in us due limit accounts camera c ≡ refused 38 0 c.buffer
@@ -77,7 +77,7 @@ module _ (us : Units) (due limit : ℕ) (accounts : List Account) (camera : ℕ)
   pub grant_passing : Passes limit accounts camera → grant_in us due limit accounts camera c ≡ within (could_have limit accounts camera) c.buffer (call_in us due c)
   grant_passing p =
       grant_there us due limit accounts camera c p.there
-      ∙ on_passed (left_of limit accounts) (account_of accounts camera) (rw (le-ltb limit (shares accounts) p.shares-fit, le-ltb (common_part limit accounts) (drawn accounts) p.drawn-fit)) refl c.buffer (call_in us due c)
+      ∙ on_passed (left_of limit accounts) (account_of accounts camera) (rw (le-ltb limit (shares accounts) p.shares_fit, le-ltb (common_part limit accounts) (drawn accounts) p.drawn_fit)) refl c.buffer (call_in us due c)
 
   module _ (law : Sound us) where
     -- ---- the unit call's own
@@ -85,8 +85,8 @@ module _ (us : Units) (due limit : ℕ) (accounts : List Account) (camera : ℕ)
     decided : Decides {Lent = ℕ × List ℕ} (CallFault us due c) call_numbers (call_in us due c).answer (due, c.buffer) (next_due due (call_in us due c).answer, (call_in us due c).buffer)
     decided = call_decides_lem law due c (λ d. d)
 
-    call-refused : {number place : ℕ} → CallFault us due c number place → call_in us due c ≡ refused number place c.buffer
-    call-refused {number} {place} f =
+    call_refused : {number place : ℕ} → CallFault us due c number place → call_in us due c ≡ refused number place c.buffer
+    call_refused {number} {place} f =
         let e = (decided.refuses number place).1 f in
         let l = ap (λ (x : ℕ × List ℕ). x.1) (decided.leaves number place e) in
         λ i. record { answer = e i; buffer = l i }
@@ -104,7 +104,7 @@ module _ (us : Units) (due limit : ℕ) (accounts : List Account) (camera : ℕ)
 
         call : Passes limit accounts camera → (answer : Answer) → (call_in us due c).answer ≡ answer → GrantFault us due limit accounts camera c number place
         call p (Refused k q) i =
-            let w = grant_passing p ∙ within-refused (could_have limit accounts camera) c.buffer (call_in us due c) i in
+            let w = grant_passing p ∙ within_refused (could_have limit accounts camera) c.buffer (call_in us due c) i in
             unit_fault p ((decided.refuses number place).0 (ap (λ (o : Outcome). o.answer) (sym w) ∙ e))
         call p (Accepted n) i = by (dec_lt (could_have limit accounts camera) n)
           where
@@ -123,14 +123,14 @@ module _ (us : Units) (due limit : ℕ) (accounts : List Account) (camera : ℕ)
 
     -- ---- a fault is refused
 
-    grant-refused : (number place : ℕ) → GrantFault us due limit accounts camera c number place → grant_in us due limit accounts camera c ≡ refused number place c.buffer
-    grant-refused number place (no_account h) = grant_absent us due limit accounts camera c h
-    grant-refused number place (shares_exceed h s) = grant_exceeding h s
-    grant-refused number place (part_overdrawn h s d) = grant_overdrawing h s d
-    grant-refused number place (unit_fault p f) =
-        let w = call-refused f in
-        grant_passing p ∙ within-refused (could_have limit accounts camera) c.buffer (call_in us due c) (ap (λ (o : Outcome). o.answer) w) ∙ w
-    grant-refused number place (too_many p i l) = grant_passing p ∙ within_more (could_have limit accounts camera) c.buffer (call_in us due c) i l
+    grant_refused : (number place : ℕ) → GrantFault us due limit accounts camera c number place → grant_in us due limit accounts camera c ≡ refused number place c.buffer
+    grant_refused number place (no_account h) = grant_absent us due limit accounts camera c h
+    grant_refused number place (shares_exceed h s) = grant_exceeding h s
+    grant_refused number place (part_overdrawn h s d) = grant_overdrawing h s d
+    grant_refused number place (unit_fault p f) =
+        let w = call_refused f in
+        grant_passing p ∙ within_refused (could_have limit accounts camera) c.buffer (call_in us due c) (ap (λ (o : Outcome). o.answer) w) ∙ w
+    grant_refused number place (too_many p i l) = grant_passing p ∙ within_more (could_have limit accounts camera) c.buffer (call_in us due c) i l
 
     -- the unit call's numbers stand before 36
     sooner : (number : ℕ) (ns : List ℕ) → OneOf number ns → OneOf number (ns ++ (36 ∷ []))
@@ -148,8 +148,8 @@ module _ (us : Units) (due limit : ℕ) (accounts : List Account) (camera : ℕ)
     -- 38 is only of the accounts
     pub none_38 : {number place : ℕ} → Passes limit accounts camera → GrantFault us due limit accounts camera c number place → ¬ (number ≡ 38)
     none_38 p (no_account h) e = omega arith
-    none_38 p (shares_exceed h s) e = let r = p.shares-fit in omega arith
-    none_38 p (part_overdrawn h s d) e = let r = p.drawn-fit in omega arith
+    none_38 p (shares_exceed h s) e = let r = p.shares_fit in omega arith
+    none_38 p (part_overdrawn h s d) e = let r = p.drawn_fit in omega arith
     none_38 p (unit_fault q f) e = not_listed 38 call_numbers refl (subst (λ (n : ℕ). OneOf n call_numbers) e (call_number f))
     none_38 p (too_many q i l) e = omega arith
 
@@ -160,7 +160,7 @@ module _ (us : Units) (due limit : ℕ) (accounts : List Account) (camera : ℕ)
     grant_decides_lem at_due =
         decides (GrantFault us due limit accounts camera c) grant_numbers grant_fault
         (λ number place f.
-        let e = grant-refused number place f in (
+        let e = grant_refused number place f in (
           ap (λ (o : Outcome). o.answer) e,
           ap (λ (o : Outcome). (at_due (next_due due o.answer), accounts_after accounts camera o.answer, o.buffer)) e ∙ ap (λ (l : List Account). (at_due due, l, c.buffer)) (set-get_or accounts camera none),
         ))

@@ -23,7 +23,7 @@ use Rattle.unit.proofs.Sound.{Sound}
 use Rattle.picture.specs.declared.state.State.{State}
 use Rattle.picture.specs.declared.state.State.TheVariants as state
 use Rattle.picture.specs.State.{Call, call, state_of, on_state, call_in}
-use Rattle.picture.specs.CallFaults.{CallFault, call-settings, call_past, call_complete, call_address, call_flags, call_room}
+use Rattle.picture.specs.CallFaults.{CallFault, call_settings, call_past, call_complete, call_address, call_flags, call_room}
 use Rattle.picture.proofs.CallFaults.{call_decides_lem}
 use Rattle.bank.specs.Granting.{within}
 use Rattle.bank.specs.Steps.{judged}
@@ -44,26 +44,26 @@ run_on (state.Refused number place) run = stopped number place
 abbrev call_run : Units → (due address : ℕ) → List ℕ → Run Row ℕ
 call_run us due address flags = run_on (state_of (counted_by us.refusal us.count) due address) (run_at us.kind (located_in us address) flags)
 
-located-finish : (k : Kind) (at : Located) (flags b : List ℕ) → read_located k at flags b ≡ finish table_bytes 14 (run_at k at flags) b
+located_finish : (k : Kind) (at : Located) (flags b : List ℕ) → read_located k at flags b ≡ finish table_bytes 14 (run_at k at flags) b
 unfolding read_located read_tree finish_end
-located-finish k (unit.At q) flags b = refl
-located-finish k (unit.Refused number) flags b = refl
+located_finish k (unit.At q) flags b = refl
+located_finish k (unit.Refused number) flags b = refl
 
 state_finish : (st : State) (c : Call) {o : Outcome} (run : Run Row ℕ) → o ≡ finish table_bytes 14 run c.buffer → on_state st c o ≡ finish table_bytes 14 (run_on st run) c.buffer
 unfolding finish_end
 state_finish state.Due c run e = e
 state_finish (state.Refused number place) c run e = refl
 
-call-finish : (us : Units) (due : ℕ) (c : Call) → call_in us due c ≡ finish table_bytes 14 (call_run us due c.address c.flags) c.buffer
+call_finish : (us : Units) (due : ℕ) (c : Call) → call_in us due c ≡ finish table_bytes 14 (call_run us due c.address c.flags) c.buffer
 unfolding call_in
-call-finish us due c =
+call_finish us due c =
     state_finish (state_of (counted_by us.refusal us.count) due c.address) c (run_at us.kind (located_in us c.address) c.flags)
-    (located-finish us.kind (located_in us c.address) c.flags c.buffer)
+    (located_finish us.kind (located_in us c.address) c.flags c.buffer)
 
 -- ---- its own refusal is never 14: a buffer with room for the place of such a refusal would be too short
 
 too_short : {us : Units} {due : ℕ} {c : Call} {number place : ℕ} → CallFault us due c number place → number ≡ 14 → length c.buffer < 8 * place
-too_short (call-settings o) e = absurd (omega arith)
+too_short (call_settings o) e = absurd (omega arith)
 too_short (call_past o l) e = absurd (omega arith)
 too_short (call_complete o d) e = absurd (omega arith)
 too_short (call_address u a) e = absurd (omega arith)
@@ -76,7 +76,7 @@ stops_other {us} law due address flags {number} {place} e is =
     let wide : List ℕ = replicate (8 * place) 0 in
     let long : length wide ≡ 8 * place = length-replicate (8 * place) 0 in
     let c = call address flags wide in
-    let said : (call_in us due c).answer ≡ Refused number place = rw (call-finish us due c, e) in
+    let said : (call_in us due c).answer ≡ Refused number place = rw (call_finish us due c, e) in
     let short = too_short (((call_decides_lem law due c (λ d. d)).refuses number place).0 said) is in
     omega arith
 
@@ -138,5 +138,5 @@ pub part_call : {us : Units} → Sound us → (due address : ℕ) (flags b : Lis
     within could b (call_in us due (call address flags b)) ≡ record { answer = judged part.answer (length b) could; buffer = part.buffer ++ drop (min (length b) (8 * could)) b }
 part_call {us} law due address flags b could =
     let run = call_run us due address flags in
-    rw (call-finish us due (call address flags b), call-finish us due (call address flags (take (min (length b) (8 * could)) b)))
+    rw (call_finish us due (call address flags b), call_finish us due (call address flags (take (min (length b) (8 * could)) b)))
     (at_end (length run.given) (table_bytes run.given) (table_length run.given) b could run.end (λ number place e. stops_other law due address flags e))

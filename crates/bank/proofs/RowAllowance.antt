@@ -24,16 +24,16 @@ use Rattle.bank.specs.GrantFaults.{Passes, could_have}
 use Rattle.bank.specs.BankCalls.{grant, BankCall, accounts_in, granted_since, after_calls, granted_in}
 use Rattle.bank.specs.SessionGrants.{Asked, grant_of, granted_on}
 use Rattle.bank.specs.RowAllowance.{AfterCalls, RowAllowance}
-use Rattle.bank.proofs.Sums.{one_most, held-is}
+use Rattle.bank.proofs.Sums.{one_most, held_is}
 use Rattle.bank.proofs.Grants.{grant_absent}
-use Rattle.bank.proofs.GrantFaults.{within-refused, within_fits, within_more, grant_passing, none_38, grant_decides_lem}
+use Rattle.bank.proofs.GrantFaults.{within_refused, within_fits, within_more, grant_passing, none_38, grant_decides_lem}
 use Rattle.bank.proofs.BankCalls.{grant_granted, Kept, kept_period, kept_calls}
 
 -- ---- one grant
 
 -- what is left of a share could be had
-share-could : (share used left n : ℕ) → n ≤ share - used → n ≤ (share - used) + min left (4294967295 - (share + (used - share)))
-share-could share used left n h = omega arith
+share_could : (share used left n : ℕ) → n ≤ share - used → n ≤ (share - used) + min left (4294967295 - (share + (used - share)))
+share_could share used left n h = omega arith
 
 -- the use can count what is left
 counts : (held left : ℕ) → held + left ≤ 4294967295 → min left (4294967295 - held) ≡ left
@@ -44,10 +44,10 @@ whole : (limit : ℕ) (accounts : List Account) (camera : ℕ) → Passes limit 
     → could_have limit accounts camera ≡ unused (account_of accounts camera) + (left_of limit accounts).rows
 whole limit accounts camera p l =
     let own = account_of accounts camera in
-    let r = p.shares-fit in
-    let u = p.drawn-fit in
+    let r = p.shares_fit in
+    let u = p.drawn_fit in
     let o = one_most held accounts camera p.there in
-    let s = held-is accounts in
+    let s = held_is accounts in
     ap (λ (m : ℕ). unused own + m) (counts (held own) (common_part limit accounts - drawn accounts) (omega arith))
 
 -- and no more than its bits, whatever the limit
@@ -81,7 +81,7 @@ module _ (limit : ℕ) (accounts : List Account) (t : Session) (camera : ℕ) (c
       p = (grant_granted (units_of t.settings) t.due limit accounts camera c e).0
 
       go : (answer : Answer) → (unit_call t c).answer ≡ answer → grant limit accounts t camera c ≡ unit_call t c
-      go (Refused number place) i = grant_passing (units_of t.settings) t.due limit accounts camera c p ∙ within-refused (could_have limit accounts camera) c.buffer (unit_call t c) i
+      go (Refused number place) i = grant_passing (units_of t.settings) t.due limit accounts camera c p ∙ within_refused (could_have limit accounts camera) c.buffer (unit_call t c) i
       go (Accepted m) i = by (dec_lt (could_have limit accounts camera) m)
         where
           by : Dec (could_have limit accounts camera < m) → grant limit accounts t camera c ≡ unit_call t c
@@ -125,7 +125,7 @@ module _ (limit : ℕ) (accounts : List Account) (calls : List BankCall) where
       let e = kept.shared in
       let l = kept.lasting in
       let u = kept.fits (omega arith) in
-      record { there = omega arith; shares-fit = omega arith; drawn-fit = omega arith }
+      record { there = omega arith; shares_fit = omega arith; drawn_fit = omega arith }
 
   absent_37 : (t : Session) (camera : ℕ) (c : Call) → length accounts ≤ camera → number_of (grant limit present t camera c).answer ≡ 37
   absent_37 t camera c h =
@@ -145,7 +145,7 @@ module _ (limit : ℕ) (accounts : List Account) (calls : List BankCall) where
 
   module _ (s : shares accounts ≤ limit) (t : Session) (camera : ℕ) (c : Call) (n : ℕ) (e : (unit_call t c).answer ≡ Accepted n) (l : n ≤ unused (account_of present camera)) where
     granted : camera < length accounts → grant limit present t camera c ≡ unit_call t c
-    granted h = grant_fits limit present t camera c e (passes s camera h) (share-could (account_of present camera).share (account_of present camera).used (left_of limit present).rows n l)
+    granted h = grant_fits limit present t camera c e (passes s camera h) (share_could (account_of present camera).share (account_of present camera).used (left_of limit present).rows n l)
 
     reserved : ¬ (number_of (grant limit present t camera c).answer ≡ 36)
     reserved x = go (dec_lt camera (length accounts))

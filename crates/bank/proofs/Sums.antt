@@ -32,20 +32,20 @@ one_most f (y ∷ ys) zero h = omega arith
 one_most f (y ∷ ys) (suc i) h = omega (arith, one_most f ys i (le_of_suc-le-suc h))
 
 -- a new period
-pub shares-cleared : (ys : List Account) → shares (new_period ys) ≡ shares ys
+pub shares_cleared : (ys : List Account) → shares (new_period ys) ≡ shares ys
 unfolding sum_of
-shares-cleared [] = refl
-shares-cleared (y ∷ ys) = ap (λ (m : ℕ). y.share + m) (shares-cleared ys)
+shares_cleared [] = refl
+shares_cleared (y ∷ ys) = ap (λ (m : ℕ). y.share + m) (shares_cleared ys)
 
 pub use_cleared : (ys : List Account) → total_use (new_period ys) ≡ 0
 unfolding sum_of
 use_cleared [] = refl
 use_cleared (y ∷ ys) = omega (arith, use_cleared ys)
 
-pub drawn-cleared : (ys : List Account) → drawn (new_period ys) ≡ 0
+pub drawn_cleared : (ys : List Account) → drawn (new_period ys) ≡ 0
 unfolding sum_of
-drawn-cleared [] = refl
-drawn-cleared (y ∷ ys) = omega (arith, drawn-cleared ys)
+drawn_cleared [] = refl
+drawn_cleared (y ∷ ys) = omega (arith, drawn_cleared ys)
 
 -- no more is used than the shares and what is drawn
 pub use_most : (ys : List Account) → total_use ys ≤ shares ys + drawn ys
@@ -54,10 +54,10 @@ use_most [] = omega arith
 use_most (y ∷ ys) = omega (arith, use_most ys)
 
 -- what is held: the shares and what is drawn
-pub held-is : (ys : List Account) → sum_of held ys ≡ shares ys + drawn ys
+pub held_is : (ys : List Account) → sum_of held ys ≡ shares ys + drawn ys
 unfolding sum_of
-held-is [] = refl
-held-is (y ∷ ys) = omega (arith, held-is ys)
+held_is [] = refl
+held_is (y ∷ ys) = omega (arith, held_is ys)
 
 -- ---- what is left
 
@@ -96,5 +96,5 @@ left_sum rows over (y ∷ ys) =
 -- the code finds what is left
 pub left_is : (limit : ℕ) (ys : List Account) → left_to (all limit) (length ys) ys ≡ left_of limit ys
 left_is limit ys =
-    let e = held-is ys in
+    let e = held_is ys in
     left_sum limit false ys ∙ same_left (omega arith) (ap (ltb limit) e ∙ sym (over_both limit (shares ys) (drawn ys)))

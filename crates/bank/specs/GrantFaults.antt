@@ -11,8 +11,8 @@ use Rattle.bank.specs.Bank.{account_of}
 -- 37 and 38 are passed
 pub record Passes (limit : ℕ) (accounts : List Account) (camera : ℕ) : Type 0 where
   pub there : camera < length accounts
-  pub shares-fit : shares accounts ≤ limit
-  pub drawn-fit : drawn accounts ≤ common_part limit accounts
+  pub shares_fit : shares accounts ≤ limit
+  pub drawn_fit : drawn accounts ≤ common_part limit accounts
 
 -- the rows that could be had for a camera
 abbrev pub could_have : (limit : ℕ) → List Account → (camera : ℕ) → ℕ

@@ -7,11 +7,11 @@ use native.Mathlib.Nat.{div-div-eq-div-mul}
 use Rattle.tree.specs.Rows.{Row, row_bytes}
 use Rattle.blocks.specs.RowNumbers.{row_word, word_of, word_bytes}
 
-pub word-is : (r : Row)
+pub word_is : (r : Row)
     → r.x % 65536 + r.y % 65536 * 65536 + (r.ew % 256 + r.eh % 256 * 256) * 4294967296 + (r.qt % 256 + r.mtt % 256 * 256) * 281474976710656
     ≡ row_word r
 unfolding word_of row_bytes
-word-is r =
+word_is r =
     let e : r.x % 65536 ≡ r.x % 256 + 256 * (r.x / 256 % 256) = omega arith in
     let f : r.y % 65536 ≡ r.y % 256 + 256 * (r.y / 256 % 256) = omega arith in
     omega arith

@@ -47,21 +47,21 @@ within p h = record {
   down = leb-true (p.top + p.high) 4 (and_right (leb (p.left + p.wide) 4) (leb (p.top + p.high) 4) h);
 }
 
-all-within : (ps : List Share) → all_within ps ≡ true → (i : ℕ) → Within (get_or ps i (share 0 0 0 0 0))
+all_within_lem : (ps : List Share) → all_within ps ≡ true → (i : ℕ) → Within (get_or ps i (share 0 0 0 0 0))
 unfolding all_within
-all-within [] h i = record { across = omega arith; down = omega arith }
-all-within (p ∷ ps) h zero = within p (and_left (within? p) (all_within ps) h)
-all-within (p ∷ ps) h (suc i) = all-within ps (and_right (within? p) (all_within ps) h) i
+all_within_lem [] h i = record { across = omega arith; down = omega arith }
+all_within_lem (p ∷ ps) h zero = within p (and_left (within? p) (all_within ps) h)
+all_within_lem (p ∷ ps) h (suc i) = all_within_lem ps (and_right (within? p) (all_within ps) h) i
 
-shares-within : (d : Decision) → all_within (shares d) ≡ true
+shares_within : (d : Decision) → all_within (shares d) ≡ true
 unfolding shares all_within within?
-shares-within Leaf = refl
-shares-within Quad = refl
-shares-within (Binary Horizontal) = refl
-shares-within (Binary Vertical) = refl
-shares-within (Ternary Horizontal) = refl
-shares-within (Ternary Vertical) = refl
+shares_within Leaf = refl
+shares_within Quad = refl
+shares_within (Binary Horizontal) = refl
+shares_within (Binary Vertical) = refl
+shares_within (Ternary Horizontal) = refl
+shares_within (Ternary Vertical) = refl
 
-pub share-within : (d : Decision) (i : ℕ) → Within (share_at d i)
+pub share_within : (d : Decision) (i : ℕ) → Within (share_at d i)
 unfolding share_at
-share-within d i = all-within (shares d) (shares-within d) i
+share_within d i = all_within_lem (shares d) (shares_within d) i

@@ -13,7 +13,7 @@ use Rattle.tree.specs.Tree.{Tree, rows_of}
 use Rattle.laws.specs.Every.{Every}
 use Rattle.laws.specs.CellOrder.{RowIn}
 use Rattle.laws.proofs.Cells.{InOne, small_in_one}
-use Rattle.laws.proofs.Copies.{some-row}
+use Rattle.laws.proofs.Copies.{some_row_lem}
 use Rattle.laws.proofs.Every.{every_map, every_both}
 use Rattle.laws.proofs.Grids.{root_at_lem, root_shape}
 use Rattle.laws.proofs.Multiples.{fold_multiple, trans_multiple}
@@ -62,7 +62,7 @@ module _ {k : Kind} {root : Node} (r : Root k root) (t : Tree k root) where
   each_cell map long = record {
     each = λ px py left right top bottom wide high.
         let all = tree_all r.valid (root_shape r.square) t px py (record { low = left; high = right }) (record { low = top; high = bottom }) wide high in
-        let found = some-row px py (rows_of t) (omega arith) in
+        let found = some_row_lem px py (rows_of t) (omega arith) in
         let held = every_of (tree_held map long) found.0 found.1.is in
         (found.0, record { row = found.1.row; is = found.1.is; has = (found.1.has, held.at px py found.1.has) });
   }

@@ -59,8 +59,8 @@ module _ (k : Kind) (root : Node) (first second : List ℕ) where
     pub second_refused : {number place : ℕ} → answer_of (test_rows k root second) ≡ Refused number place → compare_rows k root first second ≡ Refused number place
     second_refused e = second_stopped (answer_goes (test_rows k root first) p.answer).2 (answer_stops (test_rows k root second) e)
 
-    pub both-accepted : Passes k root second → compare_rows k root first second ≡ Accepted (finer_number (comparison (rows_in first) (rows_in second)))
-    both-accepted q = both_go (answer_goes (test_rows k root first) p.answer).2 (answer_goes (test_rows k root second) q.answer).2
+    pub both_accepted : Passes k root second → compare_rows k root first second ≡ Accepted (finer_number (comparison (rows_in first) (rows_in second)))
+    both_accepted q = both_go (answer_goes (test_rows k root first) p.answer).2 (answer_goes (test_rows k root second) q.answer).2
 
 -- ---- two tables of a unit that was looked for
 
@@ -76,11 +76,11 @@ module _ (k : Kind) (first second : List ℕ) where
   located_second (unit.At q) e f = second_stopped k (root_of q) first second e f
   located_second (unit.Refused m) e f = never (cc)
 
-  pub located-both : (at : Located) {rest rest₁ : List Row} → (test_located k at first).end ≡ goes rest → (test_located k at second).end ≡ goes rest₁
+  pub located_both : (at : Located) {rest rest₁ : List Row} → (test_located k at first).end ≡ goes rest → (test_located k at second).end ≡ goes rest₁
       → compare_located k at first second ≡ Accepted (finer_number (comparison (rows_in first) (rows_in second)))
   unfolding test_located compare_located
-  located-both (unit.At q) e f = both_go k (root_of q) first second e f
-  located-both (unit.Refused m) e f = never (cc)
+  located_both (unit.At q) e f = both_go k (root_of q) first second e f
+  located_both (unit.Refused m) e f = never (cc)
 
 -- ---- a table and one with the same rows
 
@@ -93,7 +93,7 @@ module _ {k : Kind} {root : Node} (tabled : Tabled k root) (first second : List 
   same_equal =
       let c = tabled.comparable first first p p in
       let e = finer_self (rows_in first) c.one.once in
-      both-accepted k root first second p (record { flags = p.flags; answer = ap answer_of same_test ∙ p.answer }) ∙ rw (← same, e)
+      both_accepted k root first second p (record { flags = p.flags; answer = ap answer_of same_test ∙ p.answer }) ∙ rw (← same, e)
 
 -- ---- a unit that was looked for
 

@@ -21,9 +21,9 @@ use Rattle.compare.proofs.Several.{same_tests, each_of, each_from}
 use Rattle.compare.proofs.Unions.{other_at, finer_of, finer_from}
 
 -- the numbers of two rows say whether the one lies inside the other
-corner-is : {map : List ℕ} {r b : Row} → SmallRow r → SmallRow b → Held map b → 0 < in_row b r.x r.y → corner_inside map (row_word r) ≡ lies_in r b
+corner_is : {map : List ℕ} {r b : Row} → SmallRow r → SmallRow b → Held map b → 0 < in_row b r.x r.y → corner_inside map (row_word r) ≡ lies_in r b
 unfolding lies_in
-corner-is {map} {r} {b} s t held here =
+corner_is {map} {r} {b} s t held here =
     rw (says_x s, says_y s, says_w s, says_h s, held.at r.x r.y here, says_x t, says_y t, says_w t, says_h t)
 
 module _ {rows others : List Row} (c : Comparable rows others) {map : List ℕ} (held : Every (Held map) others) where
@@ -41,7 +41,7 @@ module _ {rows others : List Row} (c : Comparable rows others) {map : List ℕ} 
       let small = (every_of c.one.celled i e).small in
       let other = (every_of c.other.celled found.0 found.1.is).small in
       let h = every_of held found.0 found.1.is in
-      record { number = found.0; block = found.1.row; is = found.1.is; has = found.1.has; tests = corner-is small other h found.1.has }
+      record { number = found.0; block = found.1.row; is = found.1.is; has = found.1.has; tests = corner_is small other h found.1.has }
 
   corners_of : corners_inside map rows ≡ true → finer_or_equal rows others ≡ true
   corners_of h = finer_from rows others c.other.once c.same (λ i r e.

@@ -29,7 +29,7 @@ use Rattle.compare.specs.Compare.{compare_unit}
 use Rattle.compare.specs.PartitionsCompared.{CompareFault, first_table, second_table, TreesCompared, PartitionsCompared}
 use Rattle.compare.proofs.Equal.{turned, equal_blocks, finer_blocks, is_equal, same_comparison}
 use Rattle.compare.proofs.Trees.{trees_comparable}
-use Rattle.compare.proofs.Calls.{located_first, located_second, located-both}
+use Rattle.compare.proofs.Calls.{located_first, located_second, located_both}
 
 -- ---- the call, by what the two tests end with
 
@@ -44,7 +44,7 @@ module _ (s : Settings) (a : ℕ) (first second : List ℕ) where
   pub both_pass : Passed (units_of s) a first → Passed (units_of s) a second
       → compare_unit s a first second ≡ Accepted (finer_number (comparison (rows_in first) (rows_in second)))
   both_pass p q =
-      located-both (units_of s).kind first second (located_in (units_of s) a) (ap (λ r. r.end) p.gives_flags) (ap (λ r. r.end) q.gives_flags)
+      located_both (units_of s).kind first second (located_in (units_of s) a) (ap (λ r. r.end) p.gives_flags) (ap (λ r. r.end) q.gives_flags)
 
   -- only tables that pass are compared
   pub both_passed : {m : ℕ} → compare_unit s a first second ≡ Accepted m → Passed (units_of s) a first × Passed (units_of s) a second
@@ -100,7 +100,7 @@ module _ (s : Settings) (a : ℕ) (h : unit_refusal s a ≡ 0) where
       → compare_unit s a (table_bytes (rows_of t)) (table_bytes (rows_of u)) ≡ Accepted (finer_number (comparison (rows_of t) (rows_of u)))
   compares t u =
       let r = root_of_lem (luma_sound s) a h in
-      located-both (units_of s).kind (table_bytes (rows_of t)) (table_bytes (rows_of u)) (located_in (units_of s) a)
+      located_both (units_of s).kind (table_bytes (rows_of t)) (table_bytes (rows_of u)) (located_in (units_of s) a)
       (ap (λ r. r.end) (tree_tested (luma_sound s) a h t)) (ap (λ r. r.end) (tree_tested (luma_sound s) a h u))
       ∙ rw (root_said r t, root_said r u)
 

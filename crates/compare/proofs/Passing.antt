@@ -29,8 +29,8 @@ module _ (bytes : List ℕ) where
     is_word = w.0 ∙ sym (at_word w.1)
 
     module _ (h : k < length bytes / 8) where
-      pub word-inside : Tiles (rows_in bytes) → Inside (node_in word)
-      word-inside t = rw is_word (celled_inside (rw zero-add at (row_has _ k bytes 0 h t.celled)))
+      pub word_inside : Tiles (rows_in bytes) → Inside (node_in word)
+      word_inside t = rw is_word (celled_inside (rw zero-add at (row_has _ k bytes 0 h t.celled)))
 
       -- one row more in the map
       pub fill_next : (map : List ℕ) → filled_by (filled map word) (rows_left bytes (k + 1)) ≡ filled_by map (rows_left bytes k)

@@ -12,7 +12,7 @@ use Rattle.sides.proofs.Bools.{and_left, and_right, and_intro}
 use Rattle.tree.specs.Rows.{Row}
 use Rattle.laws.specs.Geometry.{in_row, copies}
 use Rattle.laws.specs.CellOrder.{RowAt}
-use Rattle.laws.proofs.Copies.{own_corner, copies-zero, copies_parts, row_dropped, some-row, one_row}
+use Rattle.laws.proofs.Copies.{own_corner, copies_zero, copies_parts, row_dropped, some_row_lem, one_row}
 use Rattle.laws.proofs.Rectangles.{Between, rectangle_in, in_rectangle, rectangle_most}
 use Rattle.compare.specs.Finer.{some_row, every_below, has_sample, span_in, lies_in, is_union, finer_or_equal}
 use Rattle.compare.proofs.Several.{each_of, each_from, some_of, some_from, below_of, below_from}
@@ -114,17 +114,17 @@ module _ (rows : List Row) (b : Row) where
 
 -- ---- two tables with the same samples, each once
 
-has-copies : (px py : ℕ) (rows : List Row) {r : Row} (i : ℕ) → get_elem? rows i ≡ some r → 0 < in_row r px py → 0 < copies px py rows
-has-copies px py rows i e h = let a = row_dropped px py rows i 0 e (omega arith) in let b = copies_parts px py 0 rows in let c = copies-zero px py rows in omega arith
+has_copies : (px py : ℕ) (rows : List Row) {r : Row} (i : ℕ) → get_elem? rows i ≡ some r → 0 < in_row r px py → 0 < copies px py rows
+has_copies px py rows i e h = let a = row_dropped px py rows i 0 e (omega arith) in let b = copies_parts px py 0 rows in let c = copies_zero px py rows in omega arith
 
 -- the row of the other table that has a row's corner
 pub other_at : (rows others : List Row) → ((px py : ℕ) → copies px py rows ≡ copies px py others) → (i : ℕ) (r : Row) → get_elem? rows i ≡ some r
     → (j : ℕ) × RowAt (λ b. 0 < in_row b r.x r.y) others j
 other_at rows others same i r e =
     let own = own_corner r in
-    let there = has-copies r.x r.y rows i e (omega arith) in
+    let there = has_copies r.x r.y rows i e (omega arith) in
     let s = same r.x r.y in
-    some-row r.x r.y others (omega arith)
+    some_row_lem r.x r.y others (omega arith)
 
 -- a row lies inside a block of the other table
 abbrev InBlock : List Row → Row → Type 0
@@ -147,9 +147,9 @@ module _ (rows others : List Row) where
     where
       part : (j : ℕ) (b : Row) → get_elem? others j ≡ some b → (px py : ℕ) → 0 < in_row b px py → Part rows b px py
       part j b e px py there =
-          let t = has-copies px py others j e there in
+          let t = has_copies px py others j e there in
           let s = same px py in
-          let found = some-row px py rows (omega arith) in
+          let found = some_row_lem px py rows (omega arith) in
           let r = found.1.row in
           let block = f found.0 r found.1.is in
           let also = lies_samples r block.1.row px py block.1.has found.1.has in

@@ -123,13 +123,13 @@ or_none : (a : Bool) → (a || false) ≡ a
 or_none true = refl
 or_none false = refl
 
-and-true : (a b : Bool) → b ≡ true → (a && b) ≡ a
-and-true true b e = e
-and-true false b e = refl
+and_true : (a b : Bool) → b ≡ true → (a && b) ≡ a
+and_true true b e = e
+and_true false b e = refl
 
-true-and : (a b : Bool) → a ≡ true → (a && b) ≡ b
-true-and true b e = refl
-true-and false b e = clash e refl
+true_and : (a b : Bool) → a ≡ true → (a && b) ≡ b
+true_and true b e = refl
+true_and false b e = clash e refl
 
 module _ (splits : ℕ) where
   abbrev flat : Bool
@@ -144,20 +144,20 @@ module _ (splits : ℕ) where
       ≡ (1 ∷ []) ++ (flag_byte (has splits 1) false ++ (flag_byte (has splits (pick d 20 10)) (pick d false true) ++ flag_byte own binary))
   there Horizontal binary own e =
       let some = or_left flat steep e in
-      rw (has_vertical splits, some, or_right (has splits 1) true refl, and-true (has splits 1) true refl, true-and flat steep e)
+      rw (has_vertical splits, some, or_right (has splits 1) true refl, and_true (has splits 1) true refl, true_and flat steep e)
   there Vertical binary own e =
       let some = or_right flat steep e in
-      rw (has_horizontal splits, some, or_right (has splits 1) true refl, and-true (has splits 1) true refl, and-true flat steep e)
+      rw (has_horizontal splits, some, or_right (has splits 1) true refl, and_true (has splits 1) true refl, and_true flat steep e)
 
   pub binary_flags : (d : Direction) → has splits (binary_mask d) ≡ true → flags_for (rights_in false splits) (Binary d) ≡ (1 ∷ []) ++ cut_rest splits d (ternary_mask d) true
   unfolding flags_for
-  binary_flags Horizontal e = there Horizontal true (has splits 2 && has splits 8) (or_left (has splits 2) (has splits 8) e) ∙ rw (true-and (has splits 2) (has splits 8) e)
-  binary_flags Vertical e = there Vertical true (has splits 4 && has splits 16) (or_left (has splits 4) (has splits 16) e) ∙ rw (true-and (has splits 4) (has splits 16) e)
+  binary_flags Horizontal e = there Horizontal true (has splits 2 && has splits 8) (or_left (has splits 2) (has splits 8) e) ∙ rw (true_and (has splits 2) (has splits 8) e)
+  binary_flags Vertical e = there Vertical true (has splits 4 && has splits 16) (or_left (has splits 4) (has splits 16) e) ∙ rw (true_and (has splits 4) (has splits 16) e)
 
   pub ternary_flags : (d : Direction) → has splits (ternary_mask d) ≡ true → flags_for (rights_in false splits) (Ternary d) ≡ (1 ∷ []) ++ cut_rest splits d (binary_mask d) false
   unfolding flags_for
-  ternary_flags Horizontal e = there Horizontal false (has splits 2 && has splits 8) (or_right (has splits 2) (has splits 8) e) ∙ rw (and-true (has splits 2) (has splits 8) e)
-  ternary_flags Vertical e = there Vertical false (has splits 4 && has splits 16) (or_right (has splits 4) (has splits 16) e) ∙ rw (and-true (has splits 4) (has splits 16) e)
+  ternary_flags Horizontal e = there Horizontal false (has splits 2 && has splits 8) (or_right (has splits 2) (has splits 8) e) ∙ rw (and_true (has splits 2) (has splits 8) e)
+  ternary_flags Vertical e = there Vertical false (has splits 4 && has splits 16) (or_right (has splits 4) (has splits 16) e) ∙ rw (and_true (has splits 4) (has splits 16) e)
 
   -- ---- and of one that is out: no ternary cut is open, and not both binary ones
 
@@ -174,9 +174,9 @@ module _ (splits : ℕ) where
 -- ---- the flags of a node that the code has stored
 
 module _ (splits : ℕ) {b : List ℕ} {n : ℕ} (room : n < length b) where
-  pub stored-quad : has splits 1 ≡ true → {flat steep : Bool} → flat ≡ (has splits 2 || has splits 8) → steep ≡ (has splits 4 || has splits 16) → {after : List ℕ} {m : ℕ}
+  pub stored_quad : has splits 1 ≡ true → {flat steep : Bool} → flat ≡ (has splits 2 || has splits 8) → steep ≡ (has splits 4 || has splits 16) → {after : List ℕ} {m : ℕ}
       → Follows (set b n 1) (n + 1) (flag_byte (flat || steep) true) after m → Follows b n (flags_for (rights_in false splits) Quad) after m
-  stored-quad ok f s p = rw (quad_flags splits ok, ← f, ← s) (put_two (put_one b n 1 room) p)
+  stored_quad ok f s p = rw (quad_flags splits ok, ← f, ← s) (put_two (put_one b n 1 room) p)
 
   pub stored_binary : (d : Direction) → has splits (binary_mask d) ≡ true → {other : ℕ} → other ≡ ternary_mask d → {after : List ℕ} {m : ℕ}
       → Follows (set b n 1) (n + 1) (cut_rest splits d other true) after m → Follows b n (flags_for (rights_in false splits) (Binary d)) after m

@@ -52,9 +52,9 @@ abbrev accepts : ℕ → Answer → Bool
 accepts rows (Accepted count) = eqb count rows
 accepts rows (Refused number place) = false
 
-is-accepted : (rows : ℕ) (answer : Answer) → accepts rows answer ≡ true → answer ≡ Accepted rows
-is-accepted rows (Accepted count) h = ap (λ n. Accepted n) (eqb-true count rows h)
-is-accepted rows (Refused number place) h = clash h refl
+is_accepted : (rows : ℕ) (answer : Answer) → accepts rows answer ≡ true → answer ≡ Accepted rows
+is_accepted rows (Accepted count) h = ap (λ n. Accepted n) (eqb-true count rows h)
+is_accepted rows (Refused number place) h = clash h refl
 
 abbrev answered : ℕ → Answer
 answered rows = (read_unit unit64 0 (row_flags rows) (replicate (8 * rows) 0)).answer
@@ -72,7 +72,7 @@ rows_read rows least most =
     let e : 2 + (rows - 2) ≡ rows = omega arith in
     subst (λ n. Reads unit64 (row_flags n) n (4 * n - 2)) e
     (record {
-      accepted = is-accepted _ (answered (2 + (rows - 2))) (and_left _ _ h);
+      accepted = is_accepted _ (answered (2 + (rows - 2))) (and_left _ _ h);
       many = eqb-true _ _ (and_right (accepts (2 + (rows - 2)) (answered (2 + (rows - 2)))) _ h);
     })
 

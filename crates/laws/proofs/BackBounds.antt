@@ -58,8 +58,8 @@ taken_after {a} {b} {rows} {mid} {left} s t =
     (s.0 + t.0, e ∙ drop-drop t.0 s.0 rows, omega arith, omega arith)
 
 -- more samples
-taken-within : {a b : ℕ} {rows left : List Row} → a ≤ b → Taken a rows left → Taken b rows left
-taken-within h t = (t.0, t.1, t.2, omega arith)
+taken_within : {a b : ℕ} {rows left : List Row} → a ≤ b → Taken a rows left → Taken b rows left
+taken_within h t = (t.0, t.1, t.2, omega arith)
 
 taken_none : (area : ℕ) {rows left : List Row} → goes rows ≡ goes left → Taken area rows left
 taken_none area e = (0, cc, omega arith, omega arith)
@@ -91,7 +91,7 @@ module _ (k : Kind) (go : Node → List Row → Run ℕ (List Row)) where
       begin true here more = rw (over_here k go n ns rows here) (join_bounds n ns rows (go n rows).given (go n rows).end (h rows) more)
       begin false out more =
           let c = (more rows).flags in
-          rw (over_gone k go n ns rows out) (record { flags = omega arith; rest = λ left e. taken-within (omega arith) ((more rows).rest left e) })
+          rw (over_gone k go n ns rows out) (record { flags = omega arith; rest = λ left e. taken_within (omega arith) ((more rows).rest left e) })
 
 -- ---- one node
 
@@ -116,7 +116,7 @@ module _ {k : Kind} (v : Proper k) where
           let e = b.flags in
           record {
             flags = rw (length-append (flags_for (rights_of k n) d) (over_all k.limits step (children k.limits n d) (r ∷ rows)).given) (omega arith);
-            rest = λ left e. taken-within (omega arith) (b.rest left e);
+            rest = λ left e. taken_within (omega arith) (b.rest left e);
           }
 
       into_bound : (d : Decision) → decision_from k.limits n r rows ≡ d → allows (rights_of k n) d ≡ true

@@ -27,7 +27,7 @@ use Rattle.laws.proofs.Every.{every_map, every_both}
 use Rattle.laws.proofs.Multiples.{fold_least}
 use Rattle.laws.proofs.Parts.{every_child}
 use Rattle.laws.proofs.Runs.{over_here, over_gone}
-use Rattle.laws.proofs.Levels.{child-shorter}
+use Rattle.laws.proofs.Levels.{child_shorter}
 use Rattle.laws.proofs.Edge.{good_kids, no_dead_end}
 use Rattle.laws.proofs.Bytes.{reads_length}
 use Rattle.laws.proofs.Flags.{decide_sound}
@@ -110,7 +110,7 @@ module _ {k : Kind} (v : Proper k) (flags : List ℕ) where
       choice_bound g here (walk deep k flags) at
       (λ d ok. over_bounds k (walk deep k flags)
       (every_map (λ c p. walk_bound deep c p.0 p.1)
-      (every_both (good_kids v g d ok) (every_child k n d (λ p piece. let s = child-shorter k.limits n g.shape piece in omega arith)))))
+      (every_both (good_kids v g d ok) (every_child k n d (λ p piece. let s = child_shorter k.limits n g.shape piece in omega arith)))))
       (decide (rights_of k n) flags at) refl
 
 pub reading_bound : {k : Kind} → Proper k → {n : Node} → Good k.limits n → n.w + n.h + n.qt + n.mtt ≤ 256 → corner_inside k.limits n ≡ true → (flags : List ℕ) (at : ℕ) → Bound n at (read_node k flags n at)

@@ -10,7 +10,7 @@ use Rattle.laws.specs.Geometry.{in_row, copies}
 use Rattle.laws.specs.CellOrder.{RowIn, Begun, Full, RowAt, CellByCell}
 use Rattle.laws.proofs.Joins.{Joins}
 use Rattle.laws.proofs.Numbered.{at_front, at_past, at_known}
-use Rattle.laws.proofs.Copies.{own_corner, copies_append, copies-take, copies-zero, copies-none, copies_parts, row-taken, row_dropped, Once, once_first, once_rest}
+use Rattle.laws.proofs.Copies.{own_corner, copies_append, copies-take, copies_zero, copies_none, copies_parts, row_taken, row_dropped, Once, once_first, once_rest}
 
 -- what is two things is known where both are
 both_known : {A B R : Type 0} → (A → B → R) → (R → A) → (R → B) → Dec A → Dec B → Dec R
@@ -26,7 +26,7 @@ module _ (width height side : ℕ) where
         → Full side width height across down (take next rows)
 
   filled_none : Filled []
-  filled_none = record { all = λ across down next out b. let e = copies-none b.px b.py next in let s = b.there in absurd (omega arith) }
+  filled_none = record { all = λ across down next out b. let e = copies_none b.px b.py next in let s = b.there in absurd (omega arith) }
 
   -- of two tables, one after the other: the sample is in the first one, which then has the whole cell, or in the other
   module _ (first rest : List Row) (o : Once width height (first ++ rest)) (f : Filled first) (g : Filled rest) where
@@ -46,7 +46,7 @@ module _ (width height side : ℕ) where
               g.all across down after (λ r. out (subst (λ i. RowAt (RowIn side across down) (first ++ rest) i) e (at_past first rest after r))) b
           go (no h) =
               let e : after ≡ 0 = omega arith in
-              let z : copies b.px b.py (take after rest) ≡ 0 = rw e (copies-zero b.px b.py rest) in
+              let z : copies b.px b.py (take after rest) ≡ 0 = rw e (copies_zero b.px b.py rest) in
               let s = b.there in
               absurd (omega arith)
 
@@ -120,7 +120,7 @@ module _ (width height side : ℕ) where
         go : Dec (RowAt (RowIn side across down) rows j) → RowAt (RowIn side across down) rows j
         go (yes r) = r
         go (no out) =
-            let a = begun_by x (take j rows) (row-taken _ _ rows i j x.is h) in
+            let a = begun_by x (take j rows) (row_taken _ _ rows i j x.is h) in
             let b = begun_by y (drop j rows) (row_dropped _ _ rows k j y.is (omega arith)) in
             absurd (none_later across down j (f.all across down j out a) b)
 

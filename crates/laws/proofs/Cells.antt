@@ -23,7 +23,7 @@ use Rattle.laws.specs.Shape.{Shape}
 use Rattle.laws.proofs.Leaves.{leaf_start, leaf_side}
 use Rattle.laws.proofs.EveryRow.{every_row_lem}
 use Rattle.laws.proofs.Multiples.{fold_least, power_fold}
-use Rattle.laws.proofs.Parts.{every_child, child-corner, child_end}
+use Rattle.laws.proofs.Parts.{every_child, child_corner, child_end}
 use Rattle.laws.proofs.Shape.{side_four, shape_child}
 
 -- ---- a length inside one cell
@@ -74,7 +74,7 @@ module _ {k : Kind} (v : Proper k) (c : ℕ) (pos : 0 < c) where
   one_kids n i d ok = every_child k n d (λ p piece. let sh = shape_child v i.shape d ok p piece in record {
     shape = sh;
     cell = λ e.
-        let a = child-corner k.limits n d p e in
+        let a = child_corner k.limits n d p e in
         let b = child_end k.limits n piece e (side_four (i.shape.side e)) in
         let z = fold_least (sh.side e).fold in
         part_cell c (corner e n) (along e n) (corner e (child k.limits n d p)) (along e (child k.limits n d p)) pos (omega arith) (omega arith) b (i.cell e);

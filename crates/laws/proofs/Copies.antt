@@ -41,24 +41,24 @@ module _ (px py : ℕ) where
 
   -- ---- the rows before a number, and those from it on
 
-  pub copies-zero : (rows : List Row) → copies px py (take 0 rows) ≡ 0
+  pub copies_zero : (rows : List Row) → copies px py (take 0 rows) ≡ 0
   unfolding copies
-  copies-zero rows = refl
+  copies_zero rows = refl
 
-  pub copies-none : (n : ℕ) → copies px py (take n []) ≡ 0
+  pub copies_none : (n : ℕ) → copies px py (take n []) ≡ 0
   unfolding copies
-  copies-none zero = refl
-  copies-none (suc n) = refl
+  copies_none zero = refl
+  copies_none (suc n) = refl
 
   pub copies_parts : (n : ℕ) (rows : List Row) → copies px py (take n rows) + copies px py (drop n rows) ≡ copies px py rows
   copies_parts n rows = sym (copies_append (take n rows) (drop n rows)) ∙ ap (copies px py) (take-append-drop n rows)
 
-  pub row-taken : {r : Row} (rows : List Row) (i n : ℕ) → get_elem? rows i ≡ some r → i < n → in_row r px py ≤ copies px py (take n rows)
+  pub row_taken : {r : Row} (rows : List Row) (i n : ℕ) → get_elem? rows i ≡ some r → i < n → in_row r px py ≤ copies px py (take n rows)
   unfolding copies
-  row-taken [] i n e h = never (cc)
-  row-taken (s ∷ rows) i zero e h = absurd (omega arith)
-  row-taken {r} (s ∷ rows) zero (suc n) e h = let same : s ≡ r = cc in rw same (omega arith)
-  row-taken (s ∷ rows) (suc i) (suc n) e h = let k = row-taken rows i n e (omega arith) in omega arith
+  row_taken [] i n e h = never (cc)
+  row_taken (s ∷ rows) i zero e h = absurd (omega arith)
+  row_taken {r} (s ∷ rows) zero (suc n) e h = let same : s ≡ r = cc in rw same (omega arith)
+  row_taken (s ∷ rows) (suc i) (suc n) e h = let k = row_taken rows i n e (omega arith) in omega arith
 
   pub row_dropped : {r : Row} (rows : List Row) (i n : ℕ) → get_elem? rows i ≡ some r → n ≤ i → in_row r px py ≤ copies px py (drop n rows)
   unfolding copies
@@ -70,10 +70,10 @@ module _ (px py : ℕ) where
 
   -- ---- the row that has the sample
 
-  pub some-row : (rows : List Row) → 0 < copies px py rows → (i : ℕ) × RowAt (λ r. 0 < in_row r px py) rows i
+  pub some_row_lem : (rows : List Row) → 0 < copies px py rows → (i : ℕ) × RowAt (λ r. 0 < in_row r px py) rows i
   unfolding copies
-  some-row [] h = absurd (omega arith)
-  some-row (r ∷ rows) h = go (dec_lt 0 (in_row r px py)) (λ none. some-row rows (omega arith))
+  some_row_lem [] h = absurd (omega arith)
+  some_row_lem (r ∷ rows) h = go (dec_lt 0 (in_row r px py)) (λ none. some_row_lem rows (omega arith))
     where
       go : Dec (0 < in_row r px py) → (¬ (0 < in_row r px py) → (i : ℕ) × RowAt (λ r. 0 < in_row r px py) rows i) → (i : ℕ) × RowAt (λ r. 0 < in_row r px py) (r ∷ rows) i
       go (yes here) rest = (0, record { row = r; is = refl; has = here })
@@ -83,8 +83,8 @@ module _ (px py : ℕ) where
   module _ {r s : Row} (rows : List Row) (once : copies px py rows ≤ 1) (here : 0 < in_row r px py) (there : 0 < in_row s px py) where
     not_before : (i j : ℕ) → get_elem? rows i ≡ some r → get_elem? rows j ≡ some s → ¬ (i < j) × ¬ (j < i)
     not_before i j e f = (
-      λ h. let a = row-taken rows i j e h in let b = row_dropped rows j j f (omega arith) in let c = copies_parts j rows in omega arith,
-      λ h. let a = row-taken rows j i f h in let b = row_dropped rows i i e (omega arith) in let c = copies_parts i rows in omega arith,
+      λ h. let a = row_taken rows i j e h in let b = row_dropped rows j j f (omega arith) in let c = copies_parts j rows in omega arith,
+      λ h. let a = row_taken rows j i f h in let b = row_dropped rows i i e (omega arith) in let c = copies_parts i rows in omega arith,
     )
 
     pub one_row : (i j : ℕ) → get_elem? rows i ≡ some r → get_elem? rows j ≡ some s → r ≡ s

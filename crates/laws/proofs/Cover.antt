@@ -51,8 +51,8 @@ span_join a k l p = go (dec_lt p a) (dec_lt p (a + k)) (dec_lt p (a + (k + l)))
 
 -- a span that ends in the picture, or starts past its end
 module _ (end p : ℕ) where
-  span-whole : (a l : ℕ) → a + l ≤ end → span a l p ≡ span a l p * span 0 end p
-  span-whole a l h = go (dec_lt p end)
+  span_whole : (a l : ℕ) → a + l ≤ end → span a l p ≡ span a l p * span 0 end p
+  span_whole a l h = go (dec_lt p end)
     where
       go : Dec (p < end) → span a l p ≡ span a l p * span 0 end p
       go (yes i) = rw (span_in_lem 0 end p (omega arith) (omega arith)) (omega arith)
@@ -68,7 +68,7 @@ module _ (end p : ℕ) where
   -- so a span in the picture is a measure
   span_measure : UpTo end (λ a l. span a l p) (λ a l. span a l p * span 0 end p)
   span_measure = record {
-    same = span-whole;
+    same = span_whole;
     past = span_past;
     empty = λ a. rw (span_empty a p) (omega arith);
     join = λ a k l. rw (span_join a k l p) (omega arith);

@@ -27,7 +27,7 @@ use Rattle.laws.proofs.Tests.{never}
 use Rattle.laws.proofs.Every.{every_head, every_tail}
 use Rattle.laws.proofs.Multiples.{fold_least, four_quarters}
 use Rattle.laws.proofs.Opens.{quad_open_lem, binary_open_lem}
-use Rattle.laws.proofs.Slabs.{other, other_twice, same_way, by_way, slab_part, corner-along, corner-across}
+use Rattle.laws.proofs.Slabs.{other, other_twice, same_way, by_way, slab_part, corner_along, corner_across}
 use Rattle.laws.proofs.Shape.{side_four}
 use Rattle.laws.proofs.Areas.{least_area}
 use Rattle.laws.proofs.Order.{Fits, fits_there, fits_kids}
@@ -62,7 +62,7 @@ module _ (l : Limits) (n : Node) (by : Decision) (start q part : ℕ) where
   part_area Vertical = omega arith
 
   part_past : Shape n → 0 < start → (d : Direction) → corner d n < corner d (child l n by (slab d start q part))
-  part_past sh h d = rw (corner-along start q part l n by d) (omega (arith, fold_least (sh.side d).fold, mul-le-mul_left (along d n / 4) h))
+  part_past sh h d = rw (corner_along start q part l n by d) (omega (arith, fold_least (sh.side d).fold, mul-le-mul_left (along d n / 4) h))
 
 -- the first two parts of a cut, the first of q quarters, and the parts after them; the middle part of a ternary cut
 abbrev first_two : Limits → Node → Decision → Direction → ℕ → List Node → List Node
@@ -82,7 +82,7 @@ module _ {k : Kind} (v : Proper k) where
       let s = sixteenths c.shape in
       let a = part_area k.limits n by 0 q 0 d in
       let p = part_past k.limits n by q 2 1 sh some d in (
-        lead_past v c kids more n (other d) count 0 (omega arith) ∙ lead_first v m (other_trees kids) more n (other d) ∙ eq-eqb _ _ (corner-across q 2 1 k.limits n by d),
+        lead_past v c kids more n (other d) count 0 (omega arith) ∙ lead_first v m (other_trees kids) more n (other d) ∙ eq-eqb _ _ (corner_across q 2 1 k.limits n by d),
         lead_past v c kids more n d count 0 (omega arith) ∙ lead_first v m (other_trees kids) more n d ∙ ne_eqb (corner d (child k.limits n by (slab d q 2 1))) (corner d n) (λ i. omega arith),
       )
 
@@ -98,7 +98,7 @@ module _ {k : Kind} (v : Proper k) where
       let b = part_area k.limits n (Ternary d) 1 2 1 d in
       by_way (λ e. starts n e (n.w * n.h / 32) (rows_of kids ++ more) ≡ false) d
       (lead_past v c kids more n d _ (n.w * n.h / 64) (omega arith) ∙ lead_never v m (other_trees kids) more n d _ (omega arith) (part_past k.limits n (Ternary d) 1 2 1 sh (omega arith) d))
-      (rw (← corner-across 1 2 1 k.limits n (Ternary d) d) (lead_past v c kids more (middle k.limits n d) (other d) _ _ (omega arith) ∙ inner))
+      (rw (← corner_across 1 2 1 k.limits n (Ternary d) d) (lead_past v c kids more (middle k.limits n d) (other d) _ _ (omega arith) ∙ inner))
 
   middle_closed : (n : Node) (d : Direction) → closed_middle (middle k.limits n d) d ≡ true
   unfolding child child_mtt

@@ -18,9 +18,9 @@ use Rattle.laws.specs.Every.{Every, every_none, every_more}
 use Rattle.laws.specs.Proper.{Proper}
 use Rattle.laws.specs.Shape.{Side, Shape}
 use Rattle.laws.proofs.EveryRow.{every_row_lem}
-use Rattle.laws.proofs.Parts.{Piece, every_child, child-under}
+use Rattle.laws.proofs.Parts.{Piece, every_child, child_under}
 use Rattle.laws.proofs.Shape.{side_four, shape_child}
-use Rattle.laws.proofs.Levels.{child-shorter}
+use Rattle.laws.proofs.Levels.{child_shorter}
 use Rattle.laws.proofs.Depths.{one_deeper}
 
 -- ---- the powers of sides
@@ -62,9 +62,9 @@ module _ {k : Kind} (v : Proper k) (c : ℕ) where
   bounded_child : (n : Node) → Bounded c n → (d : Decision) → allows (rights_of k n) d ≡ true → (p : Share) → Piece d p → Bounded c (child k.limits n d p)
   bounded_child n b d ok p piece =
       let sh = shape_child v b.shape d ok p piece in
-      let w = child-under k.limits n piece Vertical (side_four (b.shape.side Vertical)) in
-      let h = child-under k.limits n piece Horizontal (side_four (b.shape.side Horizontal)) in
-      let falls = powers_fall sh b.shape w h (child-shorter k.limits n b.shape piece) in
+      let w = child_under k.limits n piece Vertical (side_four (b.shape.side Vertical)) in
+      let h = child_under k.limits n piece Horizontal (side_four (b.shape.side Horizontal)) in
+      let falls = powers_fall sh b.shape w h (child_shorter k.limits n b.shape piece) in
       record { shape = sh; sum = let deeper = one_deeper k.limits n d p in let s = b.sum in omega arith }
 
   bounded_kids : (n : Node) → Bounded c n → (d : Decision) → allows (rights_of k n) d ≡ true → Every (Bounded c) (children k.limits n d)

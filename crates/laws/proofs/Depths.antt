@@ -26,7 +26,7 @@ use Rattle.laws.proofs.EveryRow.{every_row_lem}
 use Rattle.laws.proofs.Multiples.{fold_least}
 use Rattle.laws.proofs.Parts.{every_child}
 use Rattle.laws.proofs.Shape.{side_power, shape_child}
-use Rattle.laws.proofs.Levels.{child-shorter}
+use Rattle.laws.proofs.Levels.{child_shorter}
 
 -- Sides and depths are at most 256 together: a split takes from the sides and adds 1 to a depth.
 record Shallow (n : Node) : Type 0 where
@@ -44,7 +44,7 @@ module _ {k : Kind} (v : Proper k) where
   shallow_kids : (n : Node) → Shallow n → (d : Decision) → allows (rights_of k n) d ≡ true → Every Shallow (children k.limits n d)
   shallow_kids n s d ok = every_child k n d (λ p piece. record {
     shape = shape_child v s.shape d ok p piece;
-    sum = let a = child-shorter k.limits n s.shape piece in let b = one_deeper k.limits n d p in let e = s.sum in omega arith;
+    sum = let a = child_shorter k.limits n s.shape piece in let b = one_deeper k.limits n d p in let e = s.sum in omega arith;
   })
 
   module _ (picture : (e : Direction) → extent e k.limits ≤ 2 ^ 16) where

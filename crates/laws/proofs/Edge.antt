@@ -27,7 +27,7 @@ use Rattle.laws.proofs.Picture.{starts_in, out_past, out_some, cut_out, child_ou
 use Rattle.laws.proofs.Directions.{other_side, square_side, square_sides}
 use Rattle.laws.proofs.Multiples.{fold_multiple, fold_least, same_multiple, apart}
 use Rattle.laws.proofs.Opens.{quad_open_lem, BinaryOpen, binary_open_lem, ternary_open_lem}
-use Rattle.laws.proofs.Parts.{Piece, no_piece, every_child, child-under}
+use Rattle.laws.proofs.Parts.{Piece, no_piece, every_child, child_under}
 use Rattle.laws.proofs.Shape.{side_four, square_room, cut_room, shape_child}
 use Rattle.laws.proofs.Grids.{grid_child, four_qt, grain_power, four_grain, picture, flat_picture, root_shape, root_grid}
 
@@ -161,8 +161,8 @@ module _ {k : Kind} (v : Proper k) {n : Node} (g : Good k.limits n) where
         let deep = o.deep in
         record {
           deep = omega arith;
-          small = λ e. let a = child-under k.limits n piece e (four_sides e) in let b = cut_small e in omega arith;
-          bt = λ e. let a = child-under k.limits n piece e (four_sides e) in let b = o.bt e in omega arith;
+          small = λ e. let a = child_under k.limits n piece e (four_sides e) in let b = cut_small e in omega arith;
+          bt = λ e. let a = child_under k.limits n piece e (four_sides e) in let b = o.bt e in omega arith;
           corners = child_corners k.limits n piece four_sides o.corner;
           outer = λ e. and_no (ltb 0 (n.mtt + 1) && eqb p.part 1) false refl;
         }

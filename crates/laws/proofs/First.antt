@@ -19,7 +19,7 @@ use Rattle.tree.specs.Tree.{Trees, skip, node, rows_of}
 use Rattle.laws.specs.Directions.{corner}
 use Rattle.laws.proofs.Slabs.{by_way, from_along, from_across}
 use Rattle.laws.proofs.Opens.{quad_open_lem}
-use Rattle.laws.proofs.Parts.{from, child-corner}
+use Rattle.laws.proofs.Parts.{from, child_corner}
 use Rattle.laws.proofs.Leaves.{row_start, leaf_start}
 
 -- depths from a node downwards: the QT depth never falls, and below a cut it stays and the MTT depth never falls
@@ -44,17 +44,17 @@ first_leaf : (n : Node) (rows : List Row) → First n (row_of n ∷ rows)
 unfolding row_of
 first_leaf n rows = record { row = row_of n; others = rows; is = refl; at = leaf_start n; depths = record { quad = omega arith; cut = λ h. (refl, omega arith) } }
 
-child-deeper : (k : Kind) (n : Node) (d : Decision) → allows (rights_of k n) d ≡ true → Deeper n.qt n.mtt (child_qt d n) (child_mtt d n)
+child_deeper : (k : Kind) (n : Node) (d : Decision) → allows (rights_of k n) d ≡ true → Deeper n.qt n.mtt (child_qt d n) (child_mtt d n)
 unfolding child_qt child_mtt rights_of
-child-deeper k n Leaf ok = record { quad = omega arith; cut = λ h. (refl, omega arith) }
-child-deeper k n Quad ok = let z = (quad_open_lem k n ok).top in record { quad = omega arith; cut = λ h. absurd (omega arith) }
-child-deeper k n (Binary d) ok = record { quad = omega arith; cut = λ h. (refl, omega arith) }
-child-deeper k n (Ternary d) ok = record { quad = omega arith; cut = λ h. (refl, omega arith) }
+child_deeper k n Leaf ok = record { quad = omega arith; cut = λ h. (refl, omega arith) }
+child_deeper k n Quad ok = let z = (quad_open_lem k n ok).top in record { quad = omega arith; cut = λ h. absurd (omega arith) }
+child_deeper k n (Binary d) ok = record { quad = omega arith; cut = λ h. (refl, omega arith) }
+child_deeper k n (Ternary d) ok = record { quad = omega arith; cut = λ h. (refl, omega arith) }
 
 -- the first part of a split starts where its node does
 module _ (k : Kind) (n : Node) (d : Decision) (p : Share) (zero-from : (e : Direction) → from e p ≡ 0) where
   pub start_same : (e : Direction) → corner e (child k.limits n d p) ≡ corner e n
-  start_same e = rw (child-corner k.limits n d p e, zero-from e) (omega arith)
+  start_same e = rw (child_corner k.limits n d p e, zero-from e) (omega arith)
 
   pub start_there : corner_inside k.limits n ≡ true → corner_inside k.limits (child k.limits n d p) ≡ true
   unfolding corner_inside
@@ -65,7 +65,7 @@ module _ (k : Kind) (n : Node) (d : Decision) (p : Share) (zero-from : (e : Dire
   unfolding child
   first_below ok here below =
       let f = below (start_there here) in
-      record { row = f.row; others = f.others; is = f.is; at = λ e. f.at e ∙ start_same e; depths = deeper (child-deeper k n d ok) f.depths }
+      record { row = f.row; others = f.others; is = f.is; at = λ e. f.at e ∙ start_same e; depths = deeper (child_deeper k n d ok) f.depths }
 
 -- the first shares of the splits
 pub quad_from : (e : Direction) → from e (share 0 0 2 2 0) ≡ 0

@@ -31,7 +31,7 @@ use Rattle.laws.proofs.Counts.{flag_count_lem}
 use Rattle.laws.proofs.Picture.{starts_in, not_out}
 use Rattle.laws.proofs.Multiples.{fold_least, four_quarters}
 use Rattle.laws.proofs.Opens.{quad_open_lem, binary_open_lem, ternary_open_lem}
-use Rattle.laws.proofs.Parts.{from, child-corner}
+use Rattle.laws.proofs.Parts.{from, child_corner}
 use Rattle.laws.proofs.Shape.{side_four, shape_kids}
 use Rattle.laws.proofs.Rights.{for_rights, at_rights}
 
@@ -143,16 +143,16 @@ module _ (k : Kind) (n : Node) where
 
   -- ---- its children in the picture
 
-  child-spare : (d : Decision) (p : Share) → spare (cuts d) ≤ spare (ltb 0 (child k.limits n d p).mtt)
+  child_spare : (d : Decision) (p : Share) → spare (cuts d) ≤ spare (ltb 0 (child k.limits n d p).mtt)
   unfolding child child_mtt
-  child-spare Leaf p = omega arith
-  child-spare Quad p = omega arith
-  child-spare (Binary d) p = rw (lt-ltb 0 (n.mtt + 1) (omega arith)) (omega arith)
-  child-spare (Ternary d) p = rw (lt-ltb 0 (n.mtt + 1) (omega arith)) (omega arith)
+  child_spare Leaf p = omega arith
+  child_spare Quad p = omega arith
+  child_spare (Binary d) p = rw (lt-ltb 0 (n.mtt + 1) (omega arith)) (omega arith)
+  child_spare (Ternary d) p = rw (lt-ltb 0 (n.mtt + 1) (omega arith)) (omega arith)
 
   module _ (sh : Shape n) (here : corner_inside k.limits n ≡ true) (d : Decision) where
     starts : (p : Share) (e : Direction) → ltb (from e p) (cond (out_along e k.limits n) 1 4) ≡ true → corner e (child k.limits n d p) < extent e k.limits
-    starts p e h = rw (child-corner k.limits n d p e) (go (out_along e k.limits n) refl (ltb-true _ _ h))
+    starts p e h = rw (child_corner k.limits n d p e) (go (out_along e k.limits n) refl (ltb-true _ _ h))
       where
         go : (b : Bool) → out_along e k.limits n ≡ b → from e p < cond b 1 4 → corner e n + along e n / 4 * from e p < extent e k.limits
         go true o l = let z : from e p ≡ 0 = omega arith in let a = starts_in k n here e in rw z (omega arith)
@@ -168,7 +168,7 @@ module _ (k : Kind) (n : Node) where
     stays_here p h = and_intro _ _ (lt-ltb _ _ (starts p Vertical (and_left _ _ h))) (lt-ltb _ _ (starts p Horizontal (and_right (ltb p.left (cond right 1 4)) _ h)))
 
     part_spare : (p : Share) (b : Bool) → stays right bottom p ≡ b → bit b (spare (cuts d)) ≤ spare_of k.limits (child k.limits n d p)
-    part_spare p true e = rw (stays_here p e) (child-spare d p)
+    part_spare p true e = rw (stays_here p e) (child_spare d p)
     part_spare p false e = omega arith
 
     kids_spare : (ps : List Share) → part_spares (spare (cuts d)) right bottom ps ≤ spares_of k.limits (children_from k.limits n d ps)

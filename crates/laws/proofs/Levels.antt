@@ -37,9 +37,9 @@ shorter a b p q ha hb hp hq h = go (dec_lt p 4)
     go (yes k) = let u = mul-le-mul_left a k in let v = mul-le-mul_left b hq in omega arith
     go (no k) = let l : q < 4 = omega arith in let u = mul-le-mul_left a hp in let v = mul-le-mul_left b l in omega arith
 
-pub child-shorter : (l : Limits) (n : Node) → Shape n → {d : Decision} {p : Share} → Piece d p → (child l n d p).w + (child l n d p).h < n.w + n.h
+pub child_shorter : (l : Limits) (n : Node) → Shape n → {d : Decision} {p : Share} → Piece d p → (child l n d p).w + (child l n d p).h < n.w + n.h
 unfolding child
-child-shorter l n sh {d} {p} piece =
+child_shorter l n sh {d} {p} piece =
     let w = four_quarters (side_four (sh.side Vertical)) in
     let h = four_quarters (side_four (sh.side Horizontal)) in
     let a = fold_least (sh.side Vertical).fold in
@@ -53,7 +53,7 @@ module _ {k : Kind} (v : Proper k) where
   kids_under : (c : ℕ) (n : Node) → Under (suc c) n → (d : Decision) → allows (rights_of k n) d ≡ true → Every (Under c) (children k.limits n d)
   kids_under c n u d ok = every_child k n d (λ p piece. record {
     shape = shape_child v u.shape d ok p piece;
-    size = let s = child-shorter k.limits n u.shape piece in let b = u.size in omega arith;
+    size = let s = child_shorter k.limits n u.shape piece in let b = u.size in omega arith;
   })
 
   levels_under : (c : ℕ) {ns : List Node} (t : Trees k ns) → Every (Under c) ns → levels t ≤ c

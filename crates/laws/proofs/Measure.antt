@@ -24,7 +24,7 @@ use Rattle.laws.specs.Shape.{Shape}
 use Rattle.laws.proofs.Picture.{inside_end}
 use Rattle.laws.proofs.Leaves.{row_start, row_side, leaf_start, leaf_side}
 use Rattle.laws.proofs.Multiples.{four_quarters}
-use Rattle.laws.proofs.Parts.{from, size, child-along, child-corner}
+use Rattle.laws.proofs.Parts.{from, size, child_along, child_corner}
 use Rattle.laws.proofs.Shape.{side_four, shape_kids}
 
 -- A measure gives a number to a length from a start on. f is the measure g up to an end: what it gives adds up, past the end it is nothing.
@@ -116,7 +116,7 @@ module _ {k : Kind} (v : Proper k) {g f : Direction → ℕ → ℕ → ℕ} (m 
 
     child_measure : (d : Decision) (p : Share) (e : Direction) → f e (corner e (child k.limits n d p)) (along e (child k.limits n d p)) ≡ run (quarter e) (from e p) (size e p)
     unfolding quarter
-    child_measure d p e = rw (child-corner k.limits n d p e, child-along k.limits n d p e) (run_measure (m e) (corner e n) (along e n / 4) (from e p) (size e p))
+    child_measure d p e = rw (child_corner k.limits n d p e, child_along k.limits n d p e) (run_measure (m e) (corner e n) (along e n / 4) (from e p) (size e p))
 
     node_measure : (e : Direction) → f e (corner e n) (along e n) ≡ run (quarter e) 0 4
     unfolding quarter

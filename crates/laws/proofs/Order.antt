@@ -28,7 +28,7 @@ use Rattle.laws.proofs.Leaves.{row_start, row_end, EndsAt, leaf_start, leaf_end}
 use Rattle.laws.proofs.Last.{Last, last, later, last_after, last_both}
 use Rattle.laws.proofs.Every.{every_join}
 use Rattle.laws.proofs.Multiples.{fold_least, four_quarters}
-use Rattle.laws.proofs.Parts.{from, size, every_child, child-corner, child-along, child_end}
+use Rattle.laws.proofs.Parts.{from, size, every_child, child_corner, child_along, child_end}
 use Rattle.laws.proofs.Slabs.{far, by_way, from_along, size_along, from_across, size_across}
 use Rattle.laws.proofs.Shape.{side_four, shape_child}
 use Rattle.laws.proofs.First.{First, first_row}
@@ -49,7 +49,7 @@ module _ {k : Kind} (v : Proper k) (b : Node) where
   kids_inner n d ok sh i = every_child k n d (λ p piece. (
     shape_child v sh d ok p piece,
     record {
-      starts = λ e. let a = child-corner k.limits n d p e in let s = i.starts e in omega arith;
+      starts = λ e. let a = child_corner k.limits n d p e in let s = i.starts e in omega arith;
       ends = λ e. let a = child_end k.limits n piece e (side_four (sh.side e)) in let s = i.ends e in omega arith;
     },
   ))
@@ -122,8 +122,8 @@ module _ {k : Kind} (v : Proper k) where
       where
         end : (p : Share) (e : Direction) → from e p + size e p ≡ 4 → far e (child k.limits n d p) ≡ far e n
         end p e h =
-            let a = child-corner k.limits n d p e in
-            let b = child-along k.limits n d p e in
+            let a = child_corner k.limits n d p e in
+            let b = child_along k.limits n d p e in
             let q = four_quarters (side_four (c.0.shape.side e)) in
             let m : along e n / 4 * (from e p + size e p) ≡ along e n / 4 * 4 = rw h in
             omega arith

@@ -26,7 +26,7 @@ use Rattle.laws.proofs.Multiples.{fold_least}
 use Rattle.laws.proofs.Leaves.{row_start, row_exponent}
 use Rattle.laws.proofs.Order.{Within, tree_within}
 use Rattle.laws.proofs.Rectangles.{Between}
-use Rattle.laws.proofs.Copies.{copies-zero, copies_parts}
+use Rattle.laws.proofs.Copies.{copies_zero, copies_parts}
 use Rattle.laws.proofs.Numbered.{every_at}
 use Rattle.laws.proofs.CellOrder.{FilledIfOnce}
 use Rattle.laws.proofs.TreeSamples.{in_node, tree_all}
@@ -104,7 +104,7 @@ module _ {k : Kind} (v : Proper k) {n : Node} (sh : Shape n) (square : n.w ≡ n
         let y = from_cell some_side (at_side Horizontal) qy (q.1 ∙ sym c.1) in
         let e = tree_all v sh t qx qy x (rw (← square) y) (omega arith) (omega arith) in
         let s = copies_parts qx qy next (rows_of t) in
-        let d : copies qx qy (drop next (rows_of t)) ≡ 0 = rw (drop_of_length-le (rows_of t) at_end) (copies-zero qx qy []) in
+        let d : copies qx qy (drop next (rows_of t)) ≡ 0 = rw (drop_of_length-le (rows_of t) at_end) (copies_zero qx qy []) in
         omega arith
 
   pub own_filled : FilledIfOnce k.limits.width k.limits.height n.w (rows_of t)

@@ -27,15 +27,15 @@ abbrev pub size : Direction → Share → ℕ
 size e p = pick e p.high p.wide
 
 module _ (l : Limits) (n : Node) (d : Decision) (p : Share) where
-  pub child-along : (e : Direction) → along e (child l n d p) ≡ along e n / 4 * size e p
+  pub child_along : (e : Direction) → along e (child l n d p) ≡ along e n / 4 * size e p
   unfolding child
-  child-along Horizontal = refl
-  child-along Vertical = refl
+  child_along Horizontal = refl
+  child_along Vertical = refl
 
-  pub child-corner : (e : Direction) → corner e (child l n d p) ≡ corner e n + along e n / 4 * from e p
+  pub child_corner : (e : Direction) → corner e (child l n d p) ≡ corner e n + along e n / 4 * from e p
   unfolding child
-  child-corner Horizontal = refl
-  child-corner Vertical = refl
+  child_corner Horizontal = refl
+  child_corner Vertical = refl
 
 -- ---- the quarters of the five splits
 
@@ -125,13 +125,13 @@ slice piece Vertical = piece.right
 
 module _ (l : Limits) (n : Node) {d : Decision} {p : Share} (piece : Piece d p) (e : Direction) where
   pub child_end : Multiple 4 (along e n) → corner e (child l n d p) + along e (child l n d p) ≤ corner e n + along e n
-  child_end b = rw (child-along l n d p e, child-corner l n d p e) (part_end (slice piece e) b (corner e n))
+  child_end b = rw (child_along l n d p e, child_corner l n d p e) (part_end (slice piece e) b (corner e n))
 
-  pub child-under : Multiple 4 (along e n) → along e (child l n d p) ≤ along e n
-  child-under b = rw (child-along l n d p e) (let h = part_end (slice piece e) b 0 in omega arith)
+  pub child_under : Multiple 4 (along e n) → along e (child l n d p) ≤ along e n
+  child_under b = rw (child_along l n d p e) (let h = part_end (slice piece e) b 0 in omega arith)
 
   pub child_fold : {m : ℕ} → Multiple 4 m → Fold m (along e n) → m * 2 < along e n * least d e → Fold m (along e (child l n d p))
-  child_fold b f room = rw (child-along l n d p e) (part_fold (slice piece e) (trans_multiple b (fold_multiple f)) f room)
+  child_fold b f room = rw (child_along l n d p e) (part_fold (slice piece e) (trans_multiple b (fold_multiple f)) f room)
 
   pub child_start : {m : ℕ} → Multiple 4 m → Fold m (along e n) → m * 2 < along e n * least d e → Multiple m (corner e n) → Multiple m (corner e (child l n d p))
-  child_start b f room at = rw (child-corner l n d p e) (add_multiple at (part_start (slice piece e) (trans_multiple b (fold_multiple f)) f room))
+  child_start b f room at = rw (child_corner l n d p e) (add_multiple at (part_start (slice piece e) (trans_multiple b (fold_multiple f)) f room))

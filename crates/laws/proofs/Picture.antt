@@ -18,7 +18,7 @@ use Rattle.tree.specs.Children.{child, corner_inside}
 use Rattle.laws.specs.Directions.{corner, extent}
 use Rattle.laws.specs.Multiples.{Multiple}
 use Rattle.laws.proofs.Tests.{never, fails}
-use Rattle.laws.proofs.Parts.{Piece, child-corner, child_end, child-under}
+use Rattle.laws.proofs.Parts.{Piece, child_corner, child_end, child_under}
 
 pub starts_in : (k : Kind) (n : Node) → corner_inside k.limits n ≡ true → (e : Direction) → corner e n < extent e k.limits
 unfolding corner_inside
@@ -77,7 +77,7 @@ unfolding corner_inside
 child_here k n d p here = and_intro _ _ (lt-ltb _ _ (starts Vertical)) (lt-ltb _ _ (starts Horizontal))
   where
     starts : (e : Direction) → corner e n < extent e k.limits
-    starts e = let a = starts_in k (child k.limits n d p) here e in let b = child-corner k.limits n d p e in omega arith
+    starts e = let a = starts_in k (child k.limits n d p) here e in let b = child_corner k.limits n d p e in omega arith
 
 -- where a part is out, its node is
 module _ (l : Limits) (n : Node) {d : Decision} {p : Share} (piece : Piece d p) (by-four : (e : Direction) → Multiple 4 (along e n)) where
@@ -95,6 +95,6 @@ module _ (l : Limits) (n : Node) {d : Decision} {p : Share} (piece : Piece d p) 
       up h =
           let both = and_left (right_out l (child l n d p) && bottom_out l (child l n d p)) _ h in
           let large = ltb-true l.minqt (child l n d p).w (and_right (right_out l (child l n d p) && bottom_out l (child l n d p)) _ h) in
-          let under = child-under l n piece Vertical (by-four Vertical) in
+          let under = child_under l n piece Vertical (by-four Vertical) in
           and_intro _ _ (and_intro _ _ (child_past Vertical (and_left _ _ both)) (child_past Horizontal (and_right (right_out l (child l n d p)) _ both)))
           (lt-ltb l.minqt n.w (omega arith))

@@ -25,7 +25,7 @@ use Rattle.laws.specs.Shape.{Shape}
 use Rattle.laws.proofs.Multiples.{fold_least}
 use Rattle.laws.proofs.Joins.{Joins, own_joined, tree_joined}
 use Rattle.laws.proofs.Rectangles.{rectangle_in, in_rectangle}
-use Rattle.laws.proofs.Copies.{copies-none}
+use Rattle.laws.proofs.Copies.{copies_none}
 use Rattle.laws.proofs.CellOrder.{FilledIfOnce, filled_joins, cell_by_cell}
 use Rattle.laws.proofs.TreeSamples.{tree_once}
 use Rattle.laws.proofs.OwnCell.{own_filled}
@@ -46,13 +46,13 @@ module _ (width height : ℕ) {r : Row} (w : OfWholeCells 64 r) where
   unfolding copies
   whole_row zero px py qx qy same begun = absurd (omega arith)
   whole_row (suc next) px py qx qy same begun =
-      let a = copies-none px py next in
-      let b = copies-none qx qy next in
+      let a = copies_none px py next in
+      let b = copies_none qx qy next in
       let e = whole_samples w px py qx qy same (omega arith) in
       omega arith
 
-  row-filled : FilledIfOnce width height 64 (r ∷ [])
-  row-filled = record {
+  row_filled : FilledIfOnce width height 64 (r ∷ [])
+  row_filled = record {
     where_once = λ o. record {
       all = λ across down next out b qx qy q wide high.
           let p = b.sample in
@@ -88,7 +88,7 @@ module _ {k : Kind} (v : Proper k) where
   node_filled n w d here ok kids below = go (dec_lt 64 (max n.w n.h))
     where
       go : Dec (64 < max n.w n.h) → Filled64 (own_rows n d ++ rows_of kids)
-      go (yes long) = joins.join (own_joined k joins n (λ i. row-filled _ _ (whole_leaf n w)) d ok) (below (whole_kids v n w long d ok))
+      go (yes long) = joins.join (own_joined k joins n (λ i. row_filled _ _ (whole_leaf n w)) d ok) (below (whole_kids v n w long d ok))
       go (no long) = rw append-nil at (one_filled n w (omega arith) (node d here ok kids none))
 
   -- ---- a square at a multiple of its side, as a unit is

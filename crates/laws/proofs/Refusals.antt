@@ -29,7 +29,7 @@ use Rattle.laws.proofs.Near.{refused_near}
 use Rattle.laws.proofs.Multiples.{fold_least}
 use Rattle.laws.proofs.Parts.{every_child}
 use Rattle.laws.proofs.Runs.{over_end}
-use Rattle.laws.proofs.Levels.{child-shorter}
+use Rattle.laws.proofs.Levels.{child_shorter}
 use Rattle.laws.proofs.Edge.{good_kids, no_dead_end}
 
 -- "A present flag lies past the end", "A byte above 1 where a present flag is read"
@@ -66,5 +66,5 @@ module _ {k : Kind} (v : Proper k) (flags : List ℕ) where
       choice_fine n g here (walk deep k flags)
       (λ d gs. over_end k (walk deep k flags) Fine (λ s. tt)
       (every_map (λ c p. walk_fine deep c p.0 p.1)
-      (every_both gs (every_child k n d (λ p piece. let s = child-shorter k.limits n g.shape piece in omega arith)))))
+      (every_both gs (every_child k n d (λ p piece. let s = child_shorter k.limits n g.shape piece in omega arith)))))
       at (decide (rights_of k n) flags at) refl

@@ -85,7 +85,7 @@ module _ {k : Kind} (v : Proper k) {n : Node} (good : Good k.limits n) (here : c
 
     left_at : (p : ℕ) → p < length rows → Astray k n rows p → LeavesAt k n rows p
     left_at p l a = record {
-      none-whole = a.none;
+      none_whole = a.none;
       begins = let h = agree_begins a.agrees in (a.tree, h.0, h.1);
       within = l;
       no_further = λ b. let h = a.most b.0 (p + 1) (begins_agree (p + 1) rows b.1 (omega arith) b.2) in omega arith;
@@ -96,7 +96,7 @@ module _ {k : Kind} (v : Proper k) {n : Node} (good : Good k.limits n) (here : c
       tree = b.begins.0;
       agrees = let l = b.within in begins_agree p rows b.begins.1 (omega arith) b.begins.2;
       most = λ t q a. most t q a (dec_lt p q);
-      none = b.none-whole;
+      none = b.none_whole;
     }
       where
         most : (t : Tree k n) (q : ℕ) → Agree q rows (rows_of t) → Dec (p < q) → q ≤ p
@@ -112,8 +112,8 @@ module _ {k : Kind} (v : Proper k) {n : Node} (good : Good k.limits n) (here : c
     begun : Astray k n rows (length rows) → GoesOn k n rows
     begun a = let h = agree_all rows a.agrees in longer a.tree (a.none a.tree) h.0 h.1
 
-    all-along : GoesOn k n rows → Astray k n rows (length rows)
-    all-along b = record {
+    all_along : GoesOn k n rows → Astray k n rows (length rows)
+    all_along b = record {
       tree = b.0;
       agrees = rw b.3 (agree_self rows (b.1 ∷ b.2));
       most = λ t q a. agree_short a;
@@ -137,7 +137,7 @@ module _ {k : Kind} (v : Proper k) {n : Node} (good : Good k.limits n) (here : c
     );
     short = λ rows. (
       λ e. begun rows (strays rows (length rows) 0 (omega arith) (fit_node k n rows) (means rows) e),
-      λ b. stays rows (length rows) 0 (omega arith) (fit_node k n rows) (means rows) (all-along rows b),
+      λ b. stays rows (length rows) 0 (omega arith) (fit_node k n rows) (means rows) (all_along rows b),
     );
     apart = same_end;
   }

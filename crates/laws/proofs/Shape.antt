@@ -23,7 +23,7 @@ use Rattle.laws.specs.Shape.{Side, Shape}
 use Rattle.laws.proofs.Directions.{square_side}
 use Rattle.laws.proofs.Multiples.{fold_least, fold_multiple, same_multiple, power_fold}
 use Rattle.laws.proofs.Opens.{quad_open_lem, binary_open_lem, ternary_open_lem}
-use Rattle.laws.proofs.Parts.{least, cut_least, Piece, every_child, child_fold, child-under}
+use Rattle.laws.proofs.Parts.{least, cut_least, Piece, every_child, child_fold, child_under}
 
 -- a power of two from 4 to 128 is one
 pub side_of : {n : ℕ} → PowerSide 4 128 n → Side n
@@ -80,7 +80,7 @@ module _ {k : Kind} (v : Proper k) {n : Node} (sh : Shape n) where
     shape_child p piece = record {
       side = λ e. record {
         fold = child_fold k.limits n piece e (same_multiple 4) (sh.side e).fold (room d ok e);
-        most = let a = child-under k.limits n piece e (side_four (sh.side e)) in let b = (sh.side e).most in omega arith;
+        most = let a = child_under k.limits n piece e (side_four (sh.side e)) in let b = (sh.side e).most in omega arith;
       };
       square = λ top. let u = uncut k n d ok top in ap₂ (λ s q. s / 4 * q) (sh.square u.0) (piece.even u.1);
     }

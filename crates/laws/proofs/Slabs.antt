@@ -11,7 +11,7 @@ use Rattle.tree.specs.declared.Decision.{Decision}
 use Rattle.tree.specs.Splits.{pick, along, same_direction}
 use Rattle.tree.specs.Children.{slab, child}
 use Rattle.laws.specs.Directions.{corner}
-use Rattle.laws.proofs.Parts.{from, size, child-corner}
+use Rattle.laws.proofs.Parts.{from, size, child_corner}
 
 abbrev pub other : Direction → Direction
 other d = pick d Vertical Horizontal
@@ -59,8 +59,8 @@ module _ (start long part : ℕ) where
 
   -- so the child that it makes starts there
   module _ (l : Limits) (n : Node) (by : Decision) (d : Direction) where
-    pub corner-along : corner d (child l n by (slab d start long part)) ≡ corner d n + along d n / 4 * start
-    corner-along = rw (child-corner l n by (slab d start long part) d, from_along d)
+    pub corner_along : corner d (child l n by (slab d start long part)) ≡ corner d n + along d n / 4 * start
+    corner_along = rw (child_corner l n by (slab d start long part) d, from_along d)
 
-    pub corner-across : corner (other d) (child l n by (slab d start long part)) ≡ corner (other d) n
-    corner-across = rw (child-corner l n by (slab d start long part) (other d), from_across d) (omega arith)
+    pub corner_across : corner (other d) (child l n by (slab d start long part)) ≡ corner (other d) n
+    corner_across = rw (child_corner l n by (slab d start long part) (other d), from_across d) (omega arith)

@@ -23,7 +23,7 @@ GoesPast k n rows = (t : Tree k n) × (r : Row) × (more : List Row) × (rows �
 
 -- The rows leave all trees at p: they begin with no whole table, some tree's table begins with their first p rows, and none with p + 1 of them.
 pub record LeavesAt (k : Kind) (n : Node) (rows : List Row) (p : ℕ) : Type 0 where
-  pub none-whole : (t : Tree k n) (rest : List Row) → ¬ (rows ≡ rows_of t ++ rest)
+  pub none_whole : (t : Tree k n) (rest : List Row) → ¬ (rows ≡ rows_of t ++ rest)
   pub begins : Begins k n (take p rows)
   pub within : p < length rows
   pub no_further : ¬ (Begins k n (take (p + 1) rows))

@@ -14,9 +14,9 @@ module _ (rest : List Row) where
   corner_here r = rw (lt-leb (cells_of r) 0 (pow_pos ((r.ew + r.eh + 12) % 16)))
 
   -- none starts within a row
-  pub corner-within : (r : Row) (count : ℕ) → 0 < count → count < cells_of r → corner_after count (r ∷ rest) ≡ 4294967295
+  pub corner_within : (r : Row) (count : ℕ) → 0 < count → count < cells_of r → corner_after count (r ∷ rest) ≡ 4294967295
   unfolding corner_after
-  corner-within r count some h = rw (lt-leb (cells_of r) count h, ne_eqb count 0 (λ e. omega arith))
+  corner_within r count some h = rw (lt-leb (cells_of r) count h, ne_eqb count 0 (λ e. omega arith))
 
   -- rows that go by
   pub corner_past : (rows : List Row) (count : ℕ) → corner_after (cells_of_all rows + count) (rows ++ rest) ≡ corner_after count rest

@@ -19,8 +19,8 @@ use Rattle.marks.proofs.NextRows.{rows_apart, rows_cells}
 
 module _ {bytes marks : List ℕ} (m : Marked bytes marks) (i count : ℕ) (within : cells_before bytes i + count < 1024)
     {got : ℕ} (e : got ≡ get_or marks (1024 + (cells_before bytes i + count)) 0) where
-  is-corner : got ≡ corner_after (cells_before bytes i + count) (rows_in bytes)
-  is-corner = e ∙ m.starts (cells_before bytes i + count) within
+  is_corner : got ≡ corner_after (cells_before bytes i + count) (rows_in bytes)
+  is_corner = e ∙ m.starts (cells_before bytes i + count) within
 
   starts_on : (test : Row → Bool) → starts_after count test (rows_left bytes i) ≡ starts_after (cells_before bytes i + count) test (rows_in bytes)
   starts_on test =
@@ -30,10 +30,10 @@ module _ {bytes marks : List ℕ} (m : Marked bytes marks) (i count : ℕ) (with
   small_rows j h l = subst (λ (x : ℕ). Eight bytes x) (let s : j * 8 ≡ 0 + j * 8 = omega arith in s) (m.small j h (omega arith))
 
   pub left_shown : (x : ℕ) → x < 65535 → starts_after count (λ r. eqb r.x x) (rows_left bytes i) ≡ eqb (got % 65536) x
-  left_shown x h = starts_on (λ r. eqb r.x x) ∙ starts_left bytes x h (length bytes / 8) 0 (cells_before bytes i + count) small_rows ∙ ap (λ g. eqb (g % 65536) x) (sym is-corner)
+  left_shown x h = starts_on (λ r. eqb r.x x) ∙ starts_left bytes x h (length bytes / 8) 0 (cells_before bytes i + count) small_rows ∙ ap (λ g. eqb (g % 65536) x) (sym is_corner)
 
   pub top_shown : (y : ℕ) → y < 65535 → starts_after count (λ r. eqb r.y y) (rows_left bytes i) ≡ eqb (got / 65536) y
-  top_shown y h = starts_on (λ r. eqb r.y y) ∙ starts_top bytes y h (length bytes / 8) 0 (cells_before bytes i + count) small_rows ∙ ap (λ g. eqb (g / 65536) y) (sym is-corner)
+  top_shown y h = starts_on (λ r. eqb r.y y) ∙ starts_top bytes y h (length bytes / 8) 0 (cells_before bytes i + count) small_rows ∙ ap (λ g. eqb (g / 65536) y) (sym is_corner)
 
 -- ---- the cut, by what the code has looked up
 

@@ -7,8 +7,8 @@ use Rattle.tree.specs.Rows.{row_at, rows_in}
 use Rattle.tree.specs.Back.{cells_of}
 use Rattle.marks.specs.Table.{rows_left, word_at, Eight}
 use Rattle.marks.specs.Marks.{corner_after, cells_before, Marked}
-use Rattle.marks.proofs.Corners.{corner_here, corner-within, corner_past}
-use Rattle.marks.proofs.RowWords.{word-corner, word_cells}
+use Rattle.marks.proofs.Corners.{corner_here, corner_within, corner_past}
+use Rattle.marks.proofs.RowWords.{word_corner, word_cells}
 use Rattle.marks.proofs.NextRows.{from_next, from_end, rows_apart, cells_next, cells_more, cells_later, rows_cells}
 
 -- the marks when so many rows are passed
@@ -83,7 +83,7 @@ module _ {bytes marks : List ℕ} {i : ℕ} (m : MarkedTo bytes marks i) where
         go (no l) (no g) =
             let n = cells_next bytes i there in
             kept_corner c (λ e. omega arith) ∙ m.ahead c h (omega arith)
-            ∙ sym (from_row c (omega arith) ∙ corner-within (rows_left bytes (i + 1)) (row_at bytes (i * 8)) (c - cells_before bytes i) (omega arith) (omega arith))
+            ∙ sym (from_row c (omega arith) ∙ corner_within (rows_left bytes (i + 1)) (row_at bytes (i * 8)) (c - cells_before bytes i) (omega arith) (omega arith))
 
     pub more_marked : MarkedTo bytes stored (i + 1)
     more_marked = record {
@@ -152,7 +152,7 @@ row_passed bytes {marks} {at} {covered} {row} {cells} p there fewer w n =
     let next : (at + 8) / 8 ≡ at / 8 + 1 = omega arith in
     let eight : Eight bytes (at / 8 * 8) = subst (λ (x : ℕ). Eight bytes x) (sym place) w.1 in
     let word : row ≡ word_at bytes (at / 8 * 8) = w.0 ∙ ap (word_at bytes) (sym place) in
-    let corner : row % 4294967296 ≡ (row_at bytes (at / 8 * 8)).x + 65536 * (row_at bytes (at / 8 * 8)).y = ap (λ r. r % 4294967296) word ∙ word-corner eight in
+    let corner : row % 4294967296 ≡ (row_at bytes (at / 8 * 8)).x + 65536 * (row_at bytes (at / 8 * 8)).y = ap (λ r. r % 4294967296) word ∙ word_corner eight in
     let size : cells ≡ cells_of (row_at bytes (at / 8 * 8)) = n.0 ∙ ap (λ r. 2 ^ ((r / 4294967296 + r / 1099511627776 + 12) % 16)) word ∙ word_cells eight in
     let c = p.2 in
     let more = cells_next bytes (at / 8) (omega arith) in

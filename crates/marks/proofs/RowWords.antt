@@ -107,9 +107,9 @@ module _ {bytes : List ℕ} {i : ℕ} (b : Eight bytes i) where
       )
 
   -- the low half is the corner, and the exponents give the cells
-  pub word-corner : word_at bytes i % 4294967296 ≡ (row_at bytes i).x + 65536 * (row_at bytes i).y
+  pub word_corner : word_at bytes i % 4294967296 ≡ (row_at bytes i).x + 65536 * (row_at bytes i).y
   unfolding word_at word_of row_at
-  word-corner = let b₀ = b.at_0 in let b₁ = b.at_1 in let b₂ = b.at_2 in let b₃ = b.at_3 in omega arith
+  word_corner = let b₀ = b.at_0 in let b₁ = b.at_1 in let b₂ = b.at_2 in let b₃ = b.at_3 in omega arith
 
   pub word_cells : 2 ^ ((word_at bytes i / 4294967296 + word_at bytes i / 1099511627776 + 12) % 16) ≡ cells_of (row_at bytes i)
   unfolding word_at word_of row_at

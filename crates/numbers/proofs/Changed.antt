@@ -7,10 +7,10 @@ use lib.ListN.{length, get_or}
 use Rattle.numbers.specs.Map.{changed}
 
 module _ {A : Type 0} (f : ℕ → A → A) where
-  pub changed-length : (at : ℕ) (l : List A) → length (changed f at l) ≡ length l
+  pub changed_length : (at : ℕ) (l : List A) → length (changed f at l) ≡ length l
   unfolding changed
-  changed-length at [] = refl
-  changed-length at (a ∷ rest) = ap suc (changed-length (at + 1) rest)
+  changed_length at [] = refl
+  changed_length at (a ∷ rest) = ap suc (changed_length (at + 1) rest)
 
   pub changed_at : (at : ℕ) (l : List A) (i : ℕ) (d : A) → i < length l → get_or (changed f at l) i d ≡ f (at + i) (get_or l i d)
   unfolding changed

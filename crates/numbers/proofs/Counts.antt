@@ -13,14 +13,14 @@ use Rattle.numbers.specs.Numbers.{unavailable}
 use Rattle.numbers.specs.Walk.{put_all}
 use Rattle.numbers.specs.Standard.{among, holds, seen, seen_at, standard}
 
-bit-and : (a b : Bool) → bit a 1 * bit b 1 ≡ bit (a && b) 1
-bit-and true b = omega arith
-bit-and false b = omega arith
+bit_and_lem : (a b : Bool) → bit a 1 * bit b 1 ≡ bit (a && b) 1
+bit_and_lem true b = omega arith
+bit_and_lem false b = omega arith
 
 -- a row counts where it holds the sample
 holds_count : (r : Row) (px py : ℕ) → in_row r px py ≡ bit (holds r px py) 1
 unfolding span
-holds_count r px py = bit-and (among r.x (2 ^ r.ew) px) (among r.y (2 ^ r.eh) py)
+holds_count r px py = bit_and_lem (among r.x (2 ^ r.ew) px) (among r.y (2 ^ r.eh) py)
 
 pub holds_between : (r : Row) (px py : ℕ) → holds r px py ≡ true → Between r.x (2 ^ r.ew) px × Between r.y (2 ^ r.eh) py
 holds_between r px py h =

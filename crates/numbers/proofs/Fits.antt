@@ -30,7 +30,7 @@ use Rattle.laws.specs.Shape.{Shape}
 use Rattle.laws.proofs.EveryRow.{every_row_lem}
 use Rattle.laws.proofs.Leaves.{side_exponent}
 use Rattle.laws.proofs.Multiples.{fold_least, four_quarters}
-use Rattle.laws.proofs.Parts.{Piece, slice, no_piece, every_child, child-along, child-under}
+use Rattle.laws.proofs.Parts.{Piece, slice, no_piece, every_child, child_along, child_under}
 use Rattle.laws.proofs.Shape.{side_four, side_power, shape_child}
 use Rattle.numbers.specs.Walk.{put_all}
 use Rattle.numbers.specs.Standard.{among, holds}
@@ -68,9 +68,9 @@ kid_deep k n four h Quad p piece =
     let z : n.w / 4 * 2 * 2 ^ (n.qt + 1) ≡ n.w / 4 * 4 * 2 ^ n.qt = rw s (omega arith) in
     omega arith
 kid_deep k n four h (Binary d) p piece =
-    let u = child-under k.limits n piece Vertical four in let m = mul-le-mul_right (2 ^ n.qt) (rw (child-along k.limits n (Binary d) p Vertical) at u) in omega arith
+    let u = child_under k.limits n piece Vertical four in let m = mul-le-mul_right (2 ^ n.qt) (rw (child_along k.limits n (Binary d) p Vertical) at u) in omega arith
 kid_deep k n four h (Ternary d) p piece =
-    let u = child-under k.limits n piece Vertical four in let m = mul-le-mul_right (2 ^ n.qt) (rw (child-along k.limits n (Ternary d) p Vertical) at u) in omega arith
+    let u = child_under k.limits n piece Vertical four in let m = mul-le-mul_right (2 ^ n.qt) (rw (child_along k.limits n (Ternary d) p Vertical) at u) in omega arith
 
 depth_most : (w qt : ℕ) → 4 ≤ w → w * 2 ^ qt ≤ 128 → qt ≤ 5
 depth_most w qt least h = go (dec_lt 5 qt)
@@ -107,45 +107,45 @@ record CellFit (c : Cell) : Type 0 where
   high : exponent_fits c.eh ≡ true
   depth : depth_fits c.qt ≡ true
 
-none-fit : CellFit no_cell
-none-fit = record { wide = refl; high = refl; depth = refl }
+none_fit : CellFit no_cell
+none_fit = record { wide = refl; high = refl; depth = refl }
 
-exponent-fit : (e : ℕ) → 2 ≤ e → e ≤ 7 → exponent_fits e ≡ true
-exponent-fit e low high = or_right (eqb e 0) _ (and_intro _ _ (le-leb _ e (omega arith)) (le-leb e _ (omega arith)))
+exponent_fit : (e : ℕ) → 2 ≤ e → e ≤ 7 → exponent_fits e ≡ true
+exponent_fit e low high = or_right (eqb e 0) _ (and_intro _ _ (le-leb _ e (omega arith)) (le-leb e _ (omega arith)))
 
-row-fit : (r : Row) → Fit r → CellFit (cell_of r)
-row-fit r f = record {
-  wide = exponent-fit r.ew f.least_w f.most_w;
-  high = exponent-fit r.eh f.least_h f.most_h;
+row_fit : (r : Row) → Fit r → CellFit (cell_of r)
+row_fit r f = record {
+  wide = exponent_fit r.ew f.least_w f.most_w;
+  high = exponent_fit r.eh f.least_h f.most_h;
   depth = let d = f.depth in le-leb r.qt _ (omega arith);
 }
 
-cond-fit : (b : Bool) {x y : Cell} → CellFit x → CellFit y → CellFit (cond b x y)
-cond-fit true p q = p
-cond-fit false p q = q
+cond_fit : (b : Bool) {x y : Cell} → CellFit x → CellFit y → CellFit (cond b x y)
+cond_fit true p q = p
+cond_fit false p q = q
 
 changed_every : {f : ℕ → Cell → Cell} → ((i : ℕ) (c : Cell) → CellFit c → CellFit (f i c)) → (at : ℕ) {map : List Cell} → Every CellFit map → Every CellFit (changed f at map)
 unfolding changed
 changed_every h at every_none = every_none
 changed_every h at (every_more {a = c} p ps) = every_more (h at c p) (changed_every h (at + 1) ps)
 
-replicate-fit : (n : ℕ) → Every CellFit (replicate n no_cell)
-replicate-fit zero = every_none
-replicate-fit (suc n) = every_more none-fit (replicate-fit n)
+replicate_fit : (n : ℕ) → Every CellFit (replicate n no_cell)
+replicate_fit zero = every_none
+replicate_fit (suc n) = every_more none_fit (replicate_fit n)
 
 empty_fit : Every CellFit empty_map
 unfolding empty_map
-empty_fit = replicate-fit 1024
+empty_fit = replicate_fit 1024
 
-map-fit : (width : ℕ) (q : Square) (store : List ℕ) {rows : List Row} → Every Fit rows → {map : List Cell} → Every CellFit map → Every CellFit (put_all (stored width q store) rows map)
+map_fit : (width : ℕ) (q : Square) (store : List ℕ) {rows : List Row} → Every Fit rows → {map : List Cell} → Every CellFit map → Every CellFit (put_all (stored width q store) rows map)
 unfolding put_all
-map-fit width q store every_none m = m
-map-fit width q store (every_more {a = r} f fs) m = map-fit width q store fs (changed_every (λ i c h. cond-fit (holds r (q.x + 4 * (i % 32)) (q.y + 4 * (i / 32))) (row-fit r f) h) 0 m)
+map_fit width q store every_none m = m
+map_fit width q store (every_more {a = r} f fs) m = map_fit width q store fs (changed_every (λ i c h. cond_fit (holds r (q.x + 4 * (i % 32)) (q.y + 4 * (i / 32))) (row_fit r f) h) 0 m)
 
-cell-fit : {map : List Cell} → Every CellFit map → (i : ℕ) → CellFit (get_or map i no_cell)
-cell-fit every_none i = none-fit
-cell-fit (every_more p ps) zero = p
-cell-fit (every_more p ps) (suc i) = cell-fit ps i
+cell_fit : {map : List Cell} → Every CellFit map → (i : ℕ) → CellFit (get_or map i no_cell)
+cell_fit every_none i = none_fit
+cell_fit (every_more p ps) zero = p
+cell_fit (every_more p ps) (suc i) = cell_fit ps i
 
 -- ---- the store
 
@@ -168,14 +168,14 @@ module _ (width height : ℕ) (wide : Multiple 4 width) (q : Square) {map : List
       go : (b : Bool) → ltb i (width / 2) ≡ b → byte_fits i (cond b (column_byte width height q map i old) (line_byte width height q map (i - width / 2) old)) ≡ true
       go true e =
           let lowest = cell_at map (i / 2 - q.x / 4) (lines_in height q - 1) in
-          let c = cell-fit m (32 * (lines_in height q - 1) + (i / 2 - q.x / 4)) in
+          let c = cell_fit m (32 * (lines_in height q - 1) + (i / 2 - q.x / 4)) in
           either_fit i (among (q.x / 4) (columns_in width q) (i / 2)) (of_pair i lowest.ew lowest.qt) old (pair_fit i i lowest.ew lowest.qt refl c.wide c.depth) h
       go false e =
           let w = wide.is in
           let l = ltb-false i (width / 2) e in
           let o = i - width / 2 in
           let r = cell_at map (columns_in width q - 1) (o / 2) in
-          let c = cell-fit m (32 * (o / 2) + (columns_in width q - 1)) in
+          let c = cell_fit m (32 * (o / 2) + (columns_in width q - 1)) in
           either_fit i (ltb (o / 2) (lines_in height q)) (of_pair o r.eh r.qt) old (pair_fit i o r.eh r.qt (omega arith) c.high c.depth) h
 
   after_fits : (store : List ℕ) → store_fits 0 store ≡ true → store_fits 0 (store_after width height q map store) ≡ true
@@ -198,4 +198,4 @@ zeros_fit (suc n) at = and_intro _ _ (either (eqb (at % 2) 0)) (zeros_fit n (at 
 -- a unit's tree
 pub unit_fits : {k : Kind} → Proper k → {n : Node} → Shape n → n.qt ≡ 0 → (t : Tree k n) (width height : ℕ) → Multiple 4 width → (q : Square) (store : List ℕ)
     → store_fits 0 store ≡ true → store_fits 0 (store_after width height q (put_all (stored width q store) (rows_of t) empty_map) store) ≡ true
-unit_fits v sh z t width height wide q store h = after_fits width height wide q (map-fit width q store (rows_fit v sh z t) empty_fit) store h
+unit_fits v sh z t width height wide q store h = after_fits width height wide q (map_fit width q store (rows_fit v sh z t) empty_fit) store h

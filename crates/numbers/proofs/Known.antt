@@ -30,7 +30,7 @@ use Rattle.numbers.proofs.Counts.{seen_none}
 use Rattle.numbers.proofs.Maps.{Agree, agree_first, agree_next, same_above, same_left}
 use Rattle.numbers.proofs.Same.{keep_tree, same_contexts}
 use Rattle.numbers.proofs.Lines.{after_long, own_column, other_column, own_line}
-use Rattle.numbers.proofs.Units.{across, square_of, root, some-across, four, least, on_cells, root_spot, picture_fours, Counted}
+use Rattle.numbers.proofs.Units.{across, square_of, root, some_across, four, least, on_cells, root_spot, picture_fours, Counted}
 
 -- ---- what the store holds before the unit at an address
 
@@ -75,7 +75,7 @@ module _ (s : Settings) (a : ℕ) (there : unit_refusal s a ≡ 0) (t : UnitTree
     unit_fresh : (d : Direction) (px py : ℕ) → In q px py → seen_at d px py done ≡ unavailable
     unit_fresh d px py i =
         let e = div-add-mod' a (across s) in
-        seen_none px py d done (c.ahead (a % across s) (a / across s) (mod-lt a (some-across s a there)) (omega arith) px py i)
+        seen_none px py d done (c.ahead (a % across s) (a / across s) (mod-lt a (some_across s a there)) (omega arith) px py i)
 
     begins : Agree q cells done done empty_map
     begins = agree_first q cells done unit_fresh
@@ -93,8 +93,8 @@ module _ (s : Settings) (a : ℕ) (there : unit_refusal s a ≡ 0) (t : UnitTree
     unfolding square_in
     top_told px low high inside pos =
         let e = div-add-mod' a (across s) in
-        let u = (some-across s a there) in
-        known.columns (a % across s) (a / across s) (mod-lt a (some-across s a there)) (omega arith) (omega arith) pos (starts_in (kind_of s) (root_at s a) (root s a there).here Horizontal) px low high inside
+        let u = (some_across s a there) in
+        known.columns (a % across s) (a / across s) (mod-lt a (some_across s a there)) (omega arith) (omega arith) pos (starts_in (kind_of s) (root_at s a) (root s a there).here Horizontal) px low high inside
 
     -- its lines at the left column
     side_told : (py : ℕ) → q.y ≤ py → py < q.y + q.side → py < s.height → 0 < q.x → line_told s.width store ((py - q.y) / 4) ≡ seen_at Horizontal (q.x - 1) py done
@@ -177,7 +177,7 @@ module _ (s : Settings) (a : ℕ) (there : unit_refusal s a ≡ 0) (t : UnitTree
             short (yes is) =
                 let e = div-add-mod' a (across s) in
                 let f : j * across s + i ≡ (a / across s + 1) * across s + a % across s = omega arith in
-                absurd (differ (one_place (across s) i j (a % across s) (a / across s + 1) h (mod-lt a (some-across s a there)) f))
+                absurd (differ (one_place (across s) i j (a % across s) (a / across s + 1) h (mod-lt a (some_across s a there)) f))
             short (no is) = omega arith
 
     lines_next : 0 < (a + 1) % across s * s.ctu → (a + 1) % across s * s.ctu < s.width
@@ -185,8 +185,8 @@ module _ (s : Settings) (a : ℕ) (there : unit_refusal s a ≡ 0) (t : UnitTree
         → line_told s.width store_next ((py - (a + 1) / across s * s.ctu) / 4) ≡ seen_at Horizontal ((a + 1) % across s * s.ctu - 1) py done_after
     lines_next pos right py low high inside =
         let p = some_of s.ctu ((a + 1) % across s) pos in
-        let x : (a + 1) % across s * s.ctu ≡ q.x + q.side = rw (next_place (across s) (some-across s a there) a p) (omega arith) in
-        let y : (a + 1) / across s * s.ctu ≡ q.y = rw (same_row (across s) (some-across s a there) a p) in
+        let x : (a + 1) % across s * s.ctu ≡ q.x + q.side = rw (next_place (across s) (some_across s a there) a p) (omega arith) in
+        let y : (a + 1) / across s * s.ctu ≡ q.y = rw (same_row (across s) (some_across s a there) a p) in
         let end : min (q.x + q.side) s.width ≡ (a + 1) % across s * s.ctu = omega arith in
         rw y (rw end at (unit_edges.lines py (omega arith) (omega arith) inside))
 

@@ -16,7 +16,7 @@ use Rattle.numbers.specs.Standard.{among}
 use Rattle.numbers.specs.Map.{Cell, cell_at}
 use Rattle.numbers.specs.Store.{cell_told, column_told, line_told}
 use Rattle.numbers.specs.StoreAfter.{columns_in, lines_in, of_pair, byte_after, store_after}
-use Rattle.numbers.proofs.Changed.{changed-length, changed_at}
+use Rattle.numbers.proofs.Changed.{changed_length, changed_at}
 use Rattle.numbers.proofs.Places.{OnCells}
 
 pair_first : (n a b : ℕ) → of_pair (2 * n) a b ≡ a
@@ -31,7 +31,7 @@ module _ (width height : ℕ) (wide : Multiple 4 width) (q : Square) (o : OnCell
 
   pub after_long : length after ≡ width / 2 + 64
   unfolding store_after
-  after_long = changed-length (byte_after width height q map) 0 store ∙ long
+  after_long = changed_length (byte_after width height q map) 0 store ∙ long
 
   byte_at : (i : ℕ) → i < width / 2 + 64 → get_or after i 0 ≡ byte_after width height q map i (get_or store i 0)
   unfolding store_after

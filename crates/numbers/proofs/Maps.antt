@@ -16,8 +16,8 @@ use Rattle.numbers.specs.Numbers.{unavailable}
 use Rattle.numbers.specs.Standard.{holds, seen, seen_at, standard}
 use Rattle.numbers.specs.Map.{changed, Cell, no_cell, cell_of, empty_map, cell_at, filled}
 use Rattle.numbers.specs.Store.{cell_told, column_told, line_told, stored}
-use Rattle.numbers.proofs.Changed.{changed-length, changed_at}
-use Rattle.numbers.proofs.Places.{OnCells, In, Spot, spot_corner, Stone, holds-cell, holds_in}
+use Rattle.numbers.proofs.Changed.{changed_length, changed_at}
+use Rattle.numbers.proofs.Places.{OnCells, In, Spot, spot_corner, Stone, holds_cell, holds_in}
 
 -- ---- one row more
 
@@ -30,9 +30,9 @@ unfolding seen_at
 seen_miss d px py r rows h = rw h
 
 -- a row's cell tells what is seen of the row
-cell-told : {q : Square} {r : Row} → Stone q r → (d : Direction) → cell_told d (cell_of r) ≡ seen d r
-cell-told {r = r} s Horizontal = let h = s.some Horizontal in rw (ne_eqb r.eh 0 (λ e. omega arith))
-cell-told {r = r} s Vertical = let h = s.some Vertical in rw (ne_eqb r.ew 0 (λ e. omega arith))
+cell_told_lem : {q : Square} {r : Row} → Stone q r → (d : Direction) → cell_told d (cell_of r) ≡ seen d r
+cell_told_lem {r = r} s Horizontal = let h = s.some Horizontal in rw (ne_eqb r.eh 0 (λ e. omega arith))
+cell_told_lem {r = r} s Vertical = let h = s.some Vertical in rw (ne_eqb r.ew 0 (λ e. omega arith))
 
 -- a cell's number has its place
 cell_place : (right down : ℕ) → right < 32 → ((0 + (32 * down + right)) % 32 ≡ right) × ((0 + (32 * down + right)) / 32 ≡ down)
@@ -76,18 +76,18 @@ module _ (q : Square) (o : OnCells q) (earlier : List Row) where
         let right : px / 4 ≡ (q.x + 4 * ((0 + c) % 32)) / 4 = rw e.0 (omega arith) in
         let down : py / 4 ≡ (q.y + 4 * ((0 + c) / 32)) / 4 = rw e.1 (omega arith) in
         changed_at (filled q r) 0 map c no_cell (omega arith)
-        ∙ ap (λ t. cond t (cell_of r) (get_or map c no_cell)) (sym (holds-cell s px py (q.x + 4 * ((0 + c) % 32)) (q.y + 4 * ((0 + c) / 32)) right down))
+        ∙ ap (λ t. cond t (cell_of r) (get_or map c no_cell)) (sym (holds_cell s px py (q.x + 4 * ((0 + c) % 32)) (q.y + 4 * ((0 + c) / 32)) right down))
 
     pub agree_next : Agree (r ∷ done) (changed (filled q r) 0 map)
     agree_next = record {
-      long = changed-length (filled q r) 0 map ∙ g.long;
+      long = changed_length (filled q r) 0 map ∙ g.long;
       inner = λ d px py i. ap (cell_told d) (cell_after px py i) ∙ either d px py i (holds r px py) refl;
       outer = λ d px py i. seen_miss d px py r done (misses px py i (holds r px py) refl) ∙ g.outer d px py i;
     }
       where
         either : (d : Direction) (px py : ℕ) → In q px py → (b : Bool) → holds r px py ≡ b
             → cell_told d (cond b (cell_of r) (cell_at map ((px - q.x) / 4) ((py - q.y) / 4))) ≡ seen_at d px py (r ∷ done)
-        either d px py i true h = cell-told s d ∙ sym (seen_hit d px py r done h)
+        either d px py i true h = cell_told_lem s d ∙ sym (seen_hit d px py r done h)
         either d px py i false h = g.inner d px py i ∙ sym (seen_miss d px py r done h)
 
         misses : (px py : ℕ) → ¬ (In q px py) → (b : Bool) → holds r px py ≡ b → b ≡ false

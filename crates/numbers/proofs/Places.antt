@@ -25,7 +25,7 @@ use Rattle.laws.proofs.Grids.{grid_child}
 use Rattle.laws.proofs.Leaves.{row_exponent, leaf_start, leaf_end, side_exponent}
 use Rattle.laws.proofs.Multiples.{fold_least, same_multiple}
 use Rattle.laws.proofs.Order.{Inner, Within}
-use Rattle.laws.proofs.Parts.{every_child, child-corner, child_end}
+use Rattle.laws.proofs.Parts.{every_child, child_corner, child_end}
 use Rattle.laws.proofs.Rectangles.{Between}
 use Rattle.laws.proofs.Shape.{side_four, room, shape_child}
 use Rattle.laws.proofs.WholeCells.{grid_leaf}
@@ -72,7 +72,7 @@ module _ {k : Kind} (v : Proper k) (q : Square) where
     shape = shape_child v s.shape d ok p piece;
     grid = grid_child k.limits (same_multiple 4) s.grid piece (room v s.shape d ok);
     inner = record {
-      starts = λ e. let a = child-corner k.limits n d p e in let b = s.inner.starts e in omega arith;
+      starts = λ e. let a = child_corner k.limits n d p e in let b = s.inner.starts e in omega arith;
       ends = λ e. let a = child_end k.limits n piece e (side_four (s.shape.side e)) in let b = s.inner.ends e in omega arith;
     };
   })
@@ -92,8 +92,8 @@ module _ {k : Kind} (v : Proper k) (q : Square) where
 -- ---- rows and cells
 
 -- a length on cells holds all samples of a cell or none
-among-cell : (a l : ℕ) → a % 4 ≡ 0 → l % 4 ≡ 0 → (p o : ℕ) → p / 4 ≡ o / 4 → among a l p ≡ among a l o
-among-cell a l m n p o e = go (dec_lt p a) (dec_lt p (a + l))
+among_cell : (a l : ℕ) → a % 4 ≡ 0 → l % 4 ≡ 0 → (p o : ℕ) → p / 4 ≡ o / 4 → among a l p ≡ among a l o
+among_cell a l m n p o e = go (dec_lt p a) (dec_lt p (a + l))
   where
     go : Dec (p < a) → Dec (p < a + l) → among a l p ≡ among a l o
     go (yes h) _ = rw (lt-leb a p h, lt-leb a o (omega arith))
@@ -102,8 +102,8 @@ among-cell a l m n p o e = go (dec_lt p a) (dec_lt p (a + l))
 
 module _ {q : Square} {r : Row} (s : Stone q r) where
   -- so does a row
-  pub holds-cell : (px py ox oy : ℕ) → px / 4 ≡ ox / 4 → py / 4 ≡ oy / 4 → holds r px py ≡ holds r ox oy
-  holds-cell px py ox oy x y = rw (among-cell r.x (2 ^ r.ew) s.whole.left s.whole.wide px ox x, among-cell r.y (2 ^ r.eh) s.whole.top s.whole.high py oy y)
+  pub holds_cell : (px py ox oy : ℕ) → px / 4 ≡ ox / 4 → py / 4 ≡ oy / 4 → holds r px py ≡ holds r ox oy
+  holds_cell px py ox oy x y = rw (among_cell r.x (2 ^ r.ew) s.whole.left s.whole.wide px ox x, among_cell r.y (2 ^ r.eh) s.whole.top s.whole.high py oy y)
 
   -- and it holds only samples of the square
   pub holds_in : (px py : ℕ) → holds r px py ≡ true → In q px py

@@ -64,8 +64,8 @@ module _ (s : Settings) (a : ℕ) (there : unit_refusal s a ≡ 0) where
   pub root : Root (kind_of s) (root_at s a)
   root = root_of_lem (luma_sound s) a there
 
-  pub some-across : 0 < across s
-  some-across = let g = gridded (passed s (unit_taken (settings_refusal s) (unit_count s) a there).0) in units_some g g.wide.0
+  pub some_across : 0 < across s
+  some_across = let g = gridded (passed s (unit_taken (settings_refusal s) (unit_count s) a there).0) in units_some g g.wide.0
 
   pub four : Multiple 4 s.ctu
   unfolding square_in
@@ -154,7 +154,7 @@ module _ (s : Settings) (a : ℕ) (there : unit_refusal s a ≡ 0) (t : UnitTree
           let i = in_unit_lem px py some in
           let m = rectangle_most 0 0 s.width s.height px py in
           let d = div-add-mod' a (across s) in
-          let z = c.ahead (a % across s) (a / across s) (mod-lt a (some-across s a there)) (omega arith) px py i in
+          let z = c.ahead (a % across s) (a / across s) (mod-lt a (some_across s a there)) (omega arith) px py i in
           rw (count px py, unit_in px py i, z) (omega arith)
       go (no none) = let e = count_none px py none in let h = c.once px py in omega arith
 
@@ -164,7 +164,7 @@ module _ (s : Settings) (a : ℕ) (there : unit_refusal s a ≡ 0) (t : UnitTree
       go : Dec (j * across s + i ≡ a) → 0 < copies px py after
       go (yes e) =
           let f = e ∙ sym (div-add-mod' a (across s)) in
-          let k = mod-lt a (some-across s a there) in
+          let k = mod-lt a (some_across s a there) in
           let x = one_place (across s) i j (a % across s) (a / across s) h k f in
           let y = one_row (across s) i j (a % across s) (a / across s) h k f in
           let n = count_in_lem px py (rw (x, y) at at) w v in
@@ -187,7 +187,7 @@ module _ (s : Settings) (a : ℕ) (there : unit_refusal s a ≡ 0) (t : UnitTree
         let b = length_before s.ctu (a / across s) (some_of s.ctu (a / across s) o) in
         let m = length_before (across s) (a / across s) (some_of s.ctu (a / across s) o) in
         let d = div-add-mod' a (across s) in
-        let k = mod-lt a (some-across s a there) in
+        let k = mod-lt a (some_across s a there) in
         let e = least s a there in
         c.past (a % across s) (a / across s - 1) k (omega arith) px (here.y - 1)
         (record { across = record { low = low; high = high }; down = record { low = omega arith; high = omega arith } }) w v;
@@ -195,7 +195,7 @@ module _ (s : Settings) (a : ℕ) (there : unit_refusal s a ≡ 0) (t : UnitTree
         let p = some_of s.ctu (a % across s) o in
         let b = length_before s.ctu (a % across s) p in
         let d = div-add-mod' a (across s) in
-        let k = mod-lt a (some-across s a there) in
+        let k = mod-lt a (some_across s a there) in
         let e = least s a there in
         c.past (a % across s - 1) (a / across s) (omega arith) (omega arith) (here.x - 1) py
         (record { across = record { low = omega arith; high = omega arith }; down = record { low = low; high = high } }) w v;

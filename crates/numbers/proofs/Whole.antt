@@ -36,8 +36,8 @@ later_before (r ∷ rows) {done} l =
 
 module _ (all table : List Row) (once : (px py : ℕ) → copies px py all ≤ 1) (view : (d : Direction) (px py : ℕ) → seen_at d px py all ≡ seen_at d px py table) where
   -- a sample that was coded is seen as it is in the whole table
-  seen-whole : {done : List Row} → Later done all → (d : Direction) (px py : ℕ) → 0 < copies px py done → seen_at d px py done ≡ seen_at d px py table
-  seen-whole {done} l d px py h =
+  seen_whole : {done : List Row} → Later done all → (d : Direction) (px py : ℕ) → 0 < copies px py done → seen_at d px py done ≡ seen_at d px py table
+  seen_whole {done} l d px py h =
       let o = once px py in
       let c = ap (copies px py) l.is ∙ copies_append px py l.rows done in
       sym (ap (seen_at d px py) l.is ∙ seen_past px py d l.rows done (omega arith)) ∙ view d px py
@@ -48,14 +48,14 @@ module _ (all table : List Row) (once : (px py : ℕ) → copies px py all ≤ 1
       where
         go : Dec (n.y ≡ 0) → standard.above done n.x n.y ≡ (whole table).above u n.x n.y
         go (yes z) = rw (eq-eqb n.y 0 z)
-        go (no z) = rw (ne_eqb n.y 0 z) (seen-whole l Vertical n.x (n.y - 1) (b.above (omega arith)))
+        go (no z) = rw (ne_eqb n.y 0 z) (seen_whole l Vertical n.x (n.y - 1) (b.above (omega arith)))
 
     left_whole : standard.left done n.x n.y ≡ (whole table).left u n.x n.y
     left_whole = go (ℕ_discrete n.x 0)
       where
         go : Dec (n.x ≡ 0) → standard.left done n.x n.y ≡ (whole table).left u n.x n.y
         go (yes z) = rw (eq-eqb n.x 0 z)
-        go (no z) = rw (ne_eqb n.x 0 z) (seen-whole l Horizontal (n.x - 1) n.y (b.left (omega arith)))
+        go (no z) = rw (ne_eqb n.x 0 z) (seen_whole l Horizontal (n.x - 1) n.y (b.left (omega arith)))
 
   -- a leaf has no children, and a split no row of its own
   kids_later : (k : Kind) (n : Node) (d : Decision) (kids : Trees k (children k.limits n d)) (done : List Row) → Later (put_all standard (own_rows n d ++ rows_of kids) done) all

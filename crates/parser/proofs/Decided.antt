@@ -31,7 +31,7 @@ use Rattle.nodes.specs.Tables.{limits_in}
 use Rattle.nodes.specs.RowNodes.{node_in, out_in}
 use Rattle.walks.specs.Stands.{word, Inside, Outer}
 use Rattle.walks.proofs.Open.{inside_rights, out_rights, out_one_cut}
-use Rattle.walks.proofs.AtEdge.{corner-is, right_is, bottom_is, out_is}
+use Rattle.walks.proofs.AtEdge.{corner_is, right_is, bottom_is, out_is}
 use Rattle.walks.proofs.One.{Case}
 use Rattle.parser.specs.Walking.{read_way, zero_next, leaf_next}
 use Rattle.parser.proofs.Seen.{Seen, Sees}
@@ -171,7 +171,7 @@ module _ {u flags : List ℕ} {c row depths : ℕ} (begins : corner_inside (limi
       out_seen : {k : Kind} {n : Node} {s : ℕ} → Case (read_way flags) Outer u c (word row depths) k n s → Seen k n row flags (place_of c) choice
       out_seen {k} {n} x =
           let o = x.stands_for in
-          let here = sym (corner-is x.table o) ∙ begins in
+          let here = sym (corner_is x.table o) ∙ begins in
           let past = ap not (sym (out_is x.table o) ∙ out) in
           let rights = out_rights x.proper o here past in
           let one = out_one_cut x.proper o here past in

@@ -30,7 +30,7 @@ use Rattle.walks.proofs.One.{Case, some_case, each_case, nothing_stored, one_ref
 use Rattle.walks.proofs.RowFields.{shallow}
 use Rattle.walks.proofs.Split.{Turn}
 use Rattle.parser.specs.Walking.{row_words, read_way}
-use Rattle.parser.proofs.Way.{none-stored}
+use Rattle.parser.proofs.Way.{none_stored}
 
 -- a node that begins inside the picture, its row, and what the flags from a place on decide
 pub record Seen (k : Kind) (n : Node) (row : ℕ) (flags : List ℕ) (at : ℕ) (choice : Choice) : Type 0 where
@@ -65,7 +65,7 @@ module _ (flags : List ℕ) {stands : Kind → Node → Word → Type 0} {u : Li
       let i = x.placed in
       let f : refusal a p ≡ r = omega arith in
       subst (λ (r : ℕ). Done (read_way flags) (walk_over (read_way flags) k (n ∷ []) s) c b r b) f
-      (one_refused (read_way flags) none-stored k n s c b y.here (reading_refused k flags n (shallow y.placed) s y.decides)))
+      (one_refused (read_way flags) none_stored k n s c b y.here (reading_refused k flags n (shallow y.placed) s y.decides)))
 
   module _ {d : Decision} {next : ℕ} (sees : Sees stands u flags c w (Chosen d next)) where
     few : (k : Kind) (n : Node) (s : ℕ) → Case (read_way flags) stands u c w k n s → (given_of c < 1024) × (place_of c ≤ next) × (next ≤ place_of c + 4) × (place_of c ≤ 2147483648)
@@ -106,7 +106,7 @@ module _ (flags : List ℕ) {stands : Kind → Node → Word → Type 0} {u : Li
       let e = stores.0 in
       let one : given_of c + 1 ≡ suc (given_of c) = omega arith in
       let g : z ≡ set b (given_of c) (row_word (row_of n)) = stores.1 ∙ rw (count, y.says) in
-      one_done (read_way flags) none-stored k n s c b y.here (reading_leaf k flags n (shallow y.placed) s y.decides) (omega arith) (omega arith)
+      one_done (read_way flags) none_stored k n s c b y.here (reading_leaf k flags n (shallow y.placed) s y.decides) (omega arith) (omega arith)
       (record { long = rw g (length-set b (given_of c) _); first = rw (g, one) (take-suc-set b (given_of c) _ (omega arith)) }))
 
   -- a split: the state after its flags is m
@@ -127,7 +127,7 @@ module _ (flags : List ℕ) {stands : Kind → Node → Word → Type 0} {u : Li
         goes_on = reading_split k flags n (shallow y.placed) s y.decides ok split;
         at = place;
         count = omega arith;
-        put = nothing_stored (read_way flags) none-stored c b;
+        put = nothing_stored (read_way flags) none_stored c b;
         rows = count;
         flags = let r = split_reads x.proper y.placed.good y.here flags s y.decides in let i = x.placed in omega arith;
       }

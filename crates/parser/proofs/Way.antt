@@ -45,6 +45,6 @@ read_lawful flags = record {
 }
 
 -- nothing is stored of no rows
-pub none-stored : row_words [] ≡ []
+pub none_stored : row_words [] ≡ []
 unfolding row_words
-none-stored = refl
+none_stored = refl

@@ -17,7 +17,7 @@ use Rattle.unit.proofs.Decided.{decides, answer_fault, reading_decides, read_ref
 use Rattle.unit.proofs.ReadsExactly.{fault_number}
 use Rattle.unit.proofs.Sound.{Sound, unit_none}
 use Rattle.picture.specs.State.{opened_by, Call, call_in, next_due}
-use Rattle.picture.specs.CallFaults.{Opens, UnitDue, CallFault, call-settings, call_past, call_complete, call_address, call_flags, call_room, call_numbers}
+use Rattle.picture.specs.CallFaults.{Opens, UnitDue, CallFault, call_settings, call_past, call_complete, call_address, call_flags, call_room, call_numbers}
 use Rattle.picture.proofs.StateCalls.{StateCase, no_settings, past_end, complete, elsewhere, here, state_case, call_without_settings, call_past_the_end, call_when_complete, call_out_of_order, call_on_the_due}
 
 -- ---- an opening
@@ -82,7 +82,7 @@ module _ {us : Units} (law : Sound us) (due : ℕ) (c : Call) where
       read u a (read_room h tree f l) = call_room u a tree f l
 
       go : StateCase us due c → CallFault us due c number place
-      go (no_settings o) = from (call-settings o) (call_without_settings us due c o)
+      go (no_settings o) = from (call_settings o) (call_without_settings us due c o)
       go (past_end o l) = from (call_past o l) (call_past_the_end us due c o l)
       go (complete o d) = from (call_complete o d) (call_when_complete us due c o d)
       go (elsewhere u a) = from (call_address u a) (call_out_of_order us due c u a)
@@ -90,16 +90,16 @@ module _ {us : Units} (law : Sound us) (due : ℕ) (c : Call) where
 
   -- ---- a fault is refused
 
-  call-refused : (number place : ℕ) → CallFault us due c number place → call_in us due c ≡ refused number place c.buffer
-  call-refused number place (call-settings o) = call_without_settings us due c o
-  call-refused number place (call_past o l) = call_past_the_end us due c o l
-  call-refused number place (call_complete o d) = call_when_complete us due c o d
-  call-refused number place (call_address u a) = call_out_of_order us due c u a
-  call-refused number place (call_flags u a f) = call_on_the_due us due c u a ∙ read_refused law due c.flags c.buffer number place (read_flags (there u) f)
-  call-refused number place (call_room u a tree f l) = call_on_the_due us due c u a ∙ read_refused law due c.flags c.buffer number place (read_room (there u) tree f l)
+  call_refused : (number place : ℕ) → CallFault us due c number place → call_in us due c ≡ refused number place c.buffer
+  call_refused number place (call_settings o) = call_without_settings us due c o
+  call_refused number place (call_past o l) = call_past_the_end us due c o l
+  call_refused number place (call_complete o d) = call_when_complete us due c o d
+  call_refused number place (call_address u a) = call_out_of_order us due c u a
+  call_refused number place (call_flags u a f) = call_on_the_due us due c u a ∙ read_refused law due c.flags c.buffer number place (read_flags (there u) f)
+  call_refused number place (call_room u a tree f l) = call_on_the_due us due c u a ∙ read_refused law due c.flags c.buffer number place (read_room (there u) tree f l)
 
   call_number : (number place : ℕ) → CallFault us due c number place → OneOf number call_numbers
-  call_number number place (call-settings o) = inl refl
+  call_number number place (call_settings o) = inl refl
   call_number number place (call_past o l) = inl refl
   call_number number place (call_complete o d) = inr (inl refl)
   call_number number place (call_address u a) = inr (inr (inl refl))
@@ -112,6 +112,6 @@ module _ {us : Units} (law : Sound us) (due : ℕ) (c : Call) where
   call_decides_lem at_due =
       decides (CallFault us due c) call_numbers call_fault
       (λ number place f.
-      let e = call-refused number place f in
+      let e = call_refused number place f in
       (ap (λ o. o.answer) e, ap (λ o. (at_due (next_due due o.answer), o.buffer)) e))
       call_number

@@ -17,8 +17,8 @@ use Rattle.picture.specs.CallFaults.{UnitDue}
 use Rattle.picture.proofs.StateCalls.{on_refused, on_due, due_here}
 
 -- what the return of a refusal asks of an accepted one
-pub not-accepted : (number place due : ℕ) (count : ℕ) → Refused number place ≡ Accepted count → due < 1048576
-not-accepted number place due count e = never (cc)
+pub not_accepted : (number place due : ℕ) (count : ℕ) → Refused number place ≡ Accepted count → due < 1048576
+not_accepted number place due count e = never (cc)
 
 module _ (us : Units) (due : ℕ) (c : Call) {count : Count} (e : count ≡ counted_by us.refusal us.count) {found : State} (f : found ≡ state_of count due c.address) where
   state_is : {st : State} → found ≡ st → state_of (counted_by us.refusal us.count) due c.address ≡ st

@@ -21,7 +21,7 @@ pub record UnitDue (us : Units) (due : ℕ) : Type 0 where
 -- What is wrong with a unit call: 22, 20, 21 in this order, then 11 to 14 as in reading the due unit.
 pub data CallFault (us : Units) (due : ℕ) (c : Call) : ℕ → ℕ → Type 0 where
   -- "the session's settings fail" their checks, "or its due address exceeds the unit count"
-  call-settings : ¬ (us.refusal ≡ 0) → CallFault us due c 22 0
+  call_settings : ¬ (us.refusal ≡ 0) → CallFault us due c 22 0
   call_past : us.refusal ≡ 0 → us.count < due → CallFault us due c 22 0
   -- "the picture is complete"
   call_complete : us.refusal ≡ 0 → due ≡ us.count → CallFault us due c 20 0

@@ -79,12 +79,12 @@ module _ (flags b : List ℕ) (answer : ℕ) (z : List ℕ) where
       rw (le-ltb answer 9223372036854775808 (omega arith), n, p)
 
 -- the number that a walk of a whole tree answers, delivered, is the reading's end
-pub all-is : (flags : List ℕ) (run : Run Row ℕ) {b z : List ℕ} {answer : ℕ} → Done (read_way flags) run 0 b answer z → 16 * length run.given ≤ 16384
+pub all_is : (flags : List ℕ) (run : Run Row ℕ) {b z : List ℕ} {answer : ℕ} → Done (read_way flags) run 0 b answer z → 16 * length run.given ≤ 16384
     → ((number place : ℕ) → run.end ≡ stops number place → (number < 32) × (place < 288230376151711744))
     → (buffer : List ℕ)
     → deliver_all answer z flags buffer ≡ finish table_bytes 14 (record { given = run.given; end = none_after flags run.end }) buffer
 unfolding Says none_after finish_end
-all-is flags run {b} {z} {answer} done few small buffer = go run.end refl
+all_is flags run {b} {z} {answer} done few small buffer = go run.end refl
   where
     go : (end : End ℕ) → run.end ≡ end → deliver_all answer z flags buffer ≡ finish table_bytes 14 (record { given = run.given; end = none_after flags run.end }) buffer
     go (goes at) e =

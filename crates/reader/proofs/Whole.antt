@@ -29,7 +29,7 @@ use Rattle.walks.specs.Walks.{Says, Done}
 use Rattle.parser.specs.Walking.{read_way, leaf_next}
 use Rattle.reader.specs.Delivery.{leaf_count, deliver_one, deliver_all}
 use Rattle.parser.proofs.Decided.{none_open}
-use Rattle.reader.proofs.Delivery.{count_small, all-is, leaf_is}
+use Rattle.reader.proofs.Delivery.{count_small, all_is, leaf_is}
 
 -- 11 and 12 are below 32
 small_refusal : (a : ℕ) → flag_refusal a ≡ true → a < 32
@@ -59,7 +59,7 @@ module _ {k : Kind} {root : Node} (r : Rooted k root) (flags : List ℕ) {b z : 
       let s = r.placed.sum in
       let fine = walk_fine r.proper flags (levels_left root) root r.placed.good (omega arith) r.here 0 in
       subst (λ o. Meets o said left)
-      (all-is flags (read_node k flags root 0) done few
+      (all_is flags (read_node k flags root 0) done few
       (λ number place h.
       let e : answer ≡ refusal number place = subst (λ x. Says (read_way flags) answer (given_of 0 + length (read_node k flags root 0).given) x) h done.said in
       (small_refusal number (subst Fine h fine), omega arith))

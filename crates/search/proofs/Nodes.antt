@@ -17,7 +17,7 @@ use Rattle.nodes.specs.Tables.{limits_in}
 use Rattle.nodes.specs.RowNodes.{node_in, inner_in, out_in}
 use Rattle.walks.specs.Stands.{Word, word, Outer, no_more, one_more}
 use Rattle.walks.specs.Walks.{Ready, Asked, Walked}
-use Rattle.walks.proofs.AtEdge.{corner-is, right_is, bottom_is, out_is}
+use Rattle.walks.proofs.AtEdge.{corner_is, right_is, bottom_is, out_is}
 use Rattle.walks.proofs.Open.{handed_over, inside_rights, out_rights}
 use Rattle.walks.proofs.One.{Case, some_case, each_case}
 use Rattle.search.specs.Walking.{search_way, Known, Tried}
@@ -43,7 +43,7 @@ module _ {bytes u : List ℕ} {c row depths : ℕ} where
   module _ (begins : corner_inside (limits_in u) (node_in row) ≡ true) where
     module _ {out : Bool} (edge : is_out (limits_in u) (node_in row) ≡ out) {k : Kind} {n : Node} {rows : List Row} (at : Child bytes u c row depths k n rows) where
       begins_here : corner_inside k.limits n ≡ true
-      begins_here = sym (corner-is at.table at.stands_for) ∙ begins
+      begins_here = sym (corner_is at.table at.stands_for) ∙ begins
 
       edge_here : is_out k.limits n ≡ out
       edge_here = sym (out_is at.table at.stands_for) ∙ edge

@@ -25,12 +25,12 @@ use Rattle.nodes.specs.Tables.{limits_in}
 use Rattle.nodes.specs.RowNodes.{node_in}
 use Rattle.walks.specs.Stands.{Word, word, Outer, no_more, one_more}
 use Rattle.walks.specs.Walks.{Asked, Walked}
-use Rattle.walks.proofs.AtEdge.{corner-is}
+use Rattle.walks.proofs.AtEdge.{corner_is}
 use Rattle.walks.proofs.One.{Case, some_case, each_case}
 use Rattle.walks.proofs.RowFields.{fits, row_says}
 use Rattle.marks.specs.Table.{rows_left, word_at, Eight, Left}
 use Rattle.marks.proofs.NextRows.{no_row, next_row, after_row}
-use Rattle.marks.proofs.RowWords.{word-corner, word_qt, word_mtt, word_tests}
+use Rattle.marks.proofs.RowWords.{word_corner, word_qt, word_mtt, word_tests}
 use Rattle.search.specs.Walking.{search_way, Known, Tried}
 use Rattle.search.proofs.Answers.{Answers, stuck_here, goes_here}
 
@@ -83,10 +83,10 @@ after bytes c = rows_left bytes (place_of c / 8 + 1)
 
 module _ {bytes u : List ℕ} {c row depths : ℕ} (begins : corner_inside (limits_in u) (node_in row) ≡ true) {at : ℕ} (place : at ≡ place_of c) {r : ℕ} (e : r ≡ refusal (16 % 32) (at / 8 % 288230376151711744)) where
   -- no row is left
-  pub child-ended : length bytes ≤ at → Walked (search_way bytes) Outer u c (word row depths ∷ []) [] r []
-  child-ended h = walked_as (λ k n rows x.
+  pub child_ended : length bytes ≤ at → Walked (search_way bytes) Outer u c (word row depths ∷ []) [] r []
+  child_ended h = walked_as (λ k n rows x.
       let o = x.stands_for in
-      let here = sym (corner-is x.table o) ∙ begins in
+      let here = sym (corner_is x.table o) ∙ begins in
       let none = no_row x.placed (omega arith) in
       (here, stuck_here bytes c x.placed place e (ap (fit_node k n) none ∙ node_none x.proper o.placed.good here o.placed.sum ∙ ap (λ rs. stuck (length rs)) (sym none))))
 
@@ -94,7 +94,7 @@ module _ {bytes u : List ℕ} {c row depths : ℕ} (begins : corner_inside (limi
   pub child_elsewhere : {next : ℕ} → Ahead bytes c next → ¬ (next % 4294967296 ≡ row % 4294967296) → Walked (search_way bytes) Outer u c (word row depths ∷ []) [] r []
   child_elsewhere {next} p other = walked_as (λ k n rows x.
       let o = x.stands_for in
-      let here = sym (corner-is x.table o) ∙ begins in
+      let here = sym (corner_is x.table o) ∙ begins in
       let are = next_row x.placed p.more in
       let none = node_pruned x.proper o.placed.good here o.placed.sum (ahead bytes c) (after bytes c) (λ st. other (same_corner o st)) in
       (here, stuck_here bytes c x.placed place e (ap (fit_node k n) are ∙ none ∙ ap (λ rs. stuck (length rs)) (sym are))))
@@ -104,7 +104,7 @@ module _ {bytes u : List ℕ} {c row depths : ℕ} (begins : corner_inside (limi
           let a = row_says o.placed o.row in
           let ax = a.at_x in
           let ay = a.at_y in
-          let w = word-corner p.eight in
+          let w = word_corner p.eight in
           let v = st.at Vertical in
           let h = st.at Horizontal in
           ap (λ (i : ℕ). i % 4294967296) p.next_is ∙ omega arith

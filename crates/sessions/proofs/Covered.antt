@@ -74,10 +74,10 @@ module _ {g : Coding} {first : ℕ} {next : ℕ → ℕ} {Due : ℕ → g.Sessio
         (λ h. not_later (g.address u) h rest (omega (arith, ap place x.at)))
 
   -- so a unit has a row in every table: one with its corner
-  pub some-row : (i : g.Table) {a : ℕ} {u : g.Taken} {us : List g.Taken} → ReadFrom l a (u ∷ us)
+  pub some_row_lem : (i : g.Table) {a : ℕ} {u : g.Taken} {us : List g.Taken} → ReadFrom l a (u ∷ us)
       → ¬ ([] ≡ joined g i (u ∷ us))
   unfolding samples.in_units copies
-  some-row i {a} {u} {us} (a_unit x rest) e =
+  some_row_lem i {a} {u} {us} (a_unit x rest) e =
       let q = g.square a in
       let c = l.tiling.corner a x.there in
       let n = units_covered q.x q.y i (a_unit x rest) in

@@ -11,7 +11,7 @@ use Rattle.sessions.specs.Forest.{Forest, forest_rows}
 use Rattle.sessions.proofs.Forests.{forest_unique, forest_legible}
 use Rattle.sessions.proofs.Laws.{Laws}
 use Rattle.sessions.proofs.Units.{no_units, a_unit, Read, ReadFrom}
-use Rattle.sessions.proofs.Covered.{some-row}
+use Rattle.sessions.proofs.Covered.{some_row_lem}
 
 module _ {g : Coding} {first : ℕ} {next : ℕ → ℕ} {Due : ℕ → g.Session → Type 0} (l : Laws g first next Due) where
   -- ---- of one unit, before other rows
@@ -41,9 +41,9 @@ module _ {g : Coding} {first : ℕ} {next : ℕ → ℕ} {Due : ℕ → g.Sessio
   unfolding lists.joined lists.flag_lists
   flags_legible no_units no_units e = refl
   flags_legible no_units (a_unit y rest) e =
-      let i = l.trees.some_table in absurd (some-row l i (a_unit y rest) (e i))
+      let i = l.trees.some_table in absurd (some_row_lem l i (a_unit y rest) (e i))
   flags_legible (a_unit x rest) no_units e =
-      let i = l.trees.some_table in absurd (some-row l i (a_unit x rest) (sym (e i)))
+      let i = l.trees.some_table in absurd (some_row_lem l i (a_unit x rest) (sym (e i)))
   flags_legible (a_unit {us = us} x rest) (a_unit {us = vs} y others) e =
       let f = unit_legible x y (λ i. joined g i us) (λ i. joined g i vs) e in
       ap₂ (λ i j. i ∷ j) f.0 (flags_legible rest others f.1)

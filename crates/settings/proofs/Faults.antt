@@ -211,8 +211,8 @@ module _ (s : Settings) where
       go (inl x) = let z = x.0 in absurd (omega arith)
       go (inr x) = subst (SettingsFault s) e (record { broken = x.1; first = x.2 })
 
-  pub settings-refused : {number : ℕ} → SettingsFault s number → settings_refusal s ≡ number
-  settings-refused {number} f = go first_broken
+  pub settings_refused : {number : ℕ} → SettingsFault s number → settings_refusal s ≡ number
+  settings_refused {number} f = go first_broken
     where
       same : (r : ℕ) → Breaks s r → ((m : ℕ) → m < r → ¬ Breaks s m) → Dec (r < number) → Dec (number < r) → r ≡ number
       same r b none (yes l) d = absurd (f.first r l b)

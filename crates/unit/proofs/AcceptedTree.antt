@@ -20,7 +20,7 @@ use Rattle.unit.specs.Reader.{read_tree}
 use Rattle.unit.specs.Writer.{write_rows}
 use Rattle.unit.proofs.Roots.{Root}
 use Rattle.unit.proofs.RootTree.{root_reading, root_small, root_turns}
-use Rattle.unit.proofs.Accepts.{deliver-all, delivered}
+use Rattle.unit.proofs.Accepts.{deliver_all_lem, delivered}
 use Rattle.unit.proofs.Parsed.{table_length}
 use Rattle.unit.proofs.TreeReading.{FlagsRead, tree_read, read_or_refused}
 
@@ -68,4 +68,4 @@ module _ {k : Kind} {root : Node} (r : Root k root) where
       → length flags ≤ length lent
       → write_rows k root (take (8 * m) left) lent ≡ accepted (length flags) flags lent
   tree_back x lent room =
-      rw (x.bytes, ← x.said) (root_turns r x.tree lent ∙ deliver-all 17 _ _ lent (rw x.said room))
+      rw (x.bytes, ← x.said) (root_turns r x.tree lent ∙ deliver_all_lem 17 _ _ lent (rw x.said room))

@@ -14,9 +14,9 @@ use Rattle.unit.specs.Exactly.{OneOf, AcceptedOr}
 
 module _ (number count : ℕ) (bytes buffer : List ℕ) where
   -- into a buffer that is long enough
-  pub deliver-all : length bytes ≤ length buffer → deliver number count bytes buffer ≡ accepted count bytes buffer
+  pub deliver_all_lem : length bytes ≤ length buffer → deliver number count bytes buffer ≡ accepted count bytes buffer
   unfolding deliver
-  deliver-all h = rw (le-ltb (length buffer) (length bytes) h)
+  deliver_all_lem h = rw (le-ltb (length buffer) (length bytes) h)
 
   -- into one that is too short
   pub deliver_short : length buffer < length bytes → deliver number count bytes buffer ≡ refused number count buffer

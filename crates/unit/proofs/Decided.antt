@@ -59,9 +59,9 @@ zero_accepts numbers p (Accepted count) a = (λ e. (count, refl), λ x. refl)
 zero_accepts numbers p (Refused number place) a = (λ e. absurd (not_listed 0 numbers p (subst (λ n. OneOf n numbers) e a)), λ x. ap (λ y. number_of y) x.1)
 
 -- an outcome that is a refusal: its answer, and the buffer as it was
-pub is-refused : {o : Outcome} {number place : ℕ} {buffer : List ℕ} → o ≡ refused number place buffer
+pub is_refused : {o : Outcome} {number place : ℕ} {buffer : List ℕ} → o ≡ refused number place buffer
     → (o.answer ≡ Refused number place) × (o.buffer ≡ buffer)
-is-refused e = (ap (λ o. o.answer) e, ap (λ o. o.buffer) e)
+is_refused e = (ap (λ o. o.answer) e, ap (λ o. o.buffer) e)
 
 -- the fault of a refusal is that of the same refusal
 pub same_fault : (Fault : ℕ → ℕ → Type 0) {a p number place : ℕ} → Fault a p → a ≡ number → p ≡ place
@@ -117,7 +117,7 @@ module _ {us : Units} (law : Sound us) (a : ℕ) (flags buffer : List ℕ) where
   read_number number place (read_room h t e l) = later_listed law a (11 ∷ 12 ∷ 13 ∷ 14 ∷ []) 14 (inr (inr (inr (inl refl))))
 
   pub reading_decides : Decides Fault (read_numbers us.numbers) (read_in us a flags buffer).answer buffer (read_in us a flags buffer).buffer
-  reading_decides = decides Fault (read_numbers us.numbers) read_fault (λ number place f. is-refused (read_refused number place f)) read_number
+  reading_decides = decides Fault (read_numbers us.numbers) read_fault (λ number place f. is_refused (read_refused number place f)) read_number
 
 -- the number of a fault of rows is one of their list
 pub rows_listed : {us : Units} (law : Sound us) (a : ℕ) {bytes : List ℕ} {number place : ℕ} → RowsFault us a bytes number place → OneOf number (rows_numbers us.numbers)
@@ -161,7 +161,7 @@ module _ {us : Units} (law : Sound us) (a : ℕ) (bytes : List ℕ) (small : Byt
 
   pub tested_decides : Decides Wrong (rows_numbers us.numbers ++ (short ∷ [])) call.answer buffer call.buffer
   tested_decides =
-      decides Wrong (tests ++ (short ∷ [])) tested_fault (λ number place f. is-refused (tested_refused number place f)) tested_number
+      decides Wrong (tests ++ (short ∷ [])) tested_fault (λ number place f. is_refused (tested_refused number place f)) tested_number
 
 -- the way back
 module _ {us : Units} (law : Sound us) (a : ℕ) (bytes : List ℕ) (small : Bytes bytes) (buffer : List ℕ) where

@@ -19,9 +19,9 @@ found refusal square {q} = go (eqb refusal 0) refl
     go false t h = never (cc)
 
 -- by the refusal of the settings: it is answered first, and plays no part where it is 0
-pub settings-refused : {refusal : ℕ} → ¬ (refusal ≡ 0) → (count a : ℕ) (q : Square) → Refused refusal ≡ located_by (refusal_at refusal count a) q
+pub settings_refused : {refusal : ℕ} → ¬ (refusal ≡ 0) → (count a : ℕ) (q : Square) → Refused refusal ≡ located_by (refusal_at refusal count a) q
 unfolding located_by refusal_at
-settings-refused {refusal} e count a q = let n = ne_eqb refusal 0 e in rw (n, n)
+settings_refused {refusal} e count a q = let n = ne_eqb refusal 0 e in rw (n, n)
 
 pub settings_passed : {refusal : ℕ} → refusal ≡ 0 → (count a : ℕ) (q : Square) {at : Located} → at ≡ located_by (refusal_at 0 count a) q
     → at ≡ located_by (refusal_at refusal count a) q

@@ -8,7 +8,7 @@ use native.Mathlib.Omega.{arith}
 use Rattle.settings.specs.declared.Settings.{Settings}
 use Rattle.settings.specs.Checks.{side_rules, limit_rules, picture_rules, first_hit, settings_refusal}
 use Rattle.settings.specs.Faults.{settings_numbers, SettingsFault}
-use Rattle.settings.proofs.Faults.{settings_fault, settings-refused, fault_range}
+use Rattle.settings.proofs.Faults.{settings_fault, settings_refused, fault_range}
 use Rattle.settings.proofs.Grid.{gridded}
 use Rattle.settings.proofs.Passed.{Passed, passed}
 use Rattle.unit.specs.Luma.{limits_of, units_of}
@@ -53,14 +53,14 @@ module _ (s : Settings) where
   settings_number {number} f = go (hit_number 1 (side_rules s ++ (limit_rules s ++ picture_rules s)))
     where
       go : (settings_refusal s ≡ 0) ⊎ OneOf (settings_refusal s) settings_numbers → OneOf number settings_numbers
-      go (inl z) = let e = settings-refused s f in let r = fault_range s f in absurd (omega arith)
-      go (inr o) = rw (settings-refused s f) at o
+      go (inl z) = let e = settings_refused s f in let r = fault_range s f in absurd (omega arith)
+      go (inr o) = rw (settings_refused s f) at o
 
   pub luma_sound : Sound (units_of s)
   luma_sound = record {
     root = λ a e h. usable_root (usable (passed s e)) a h;
     fault = λ e l. settings_fault s _ e l;
-    refused = λ f. (settings-refused s f, (fault_range s f).0);
+    refused = λ f. (settings_refused s f, (fault_range s f).0);
     listed = settings_number;
     others = refl;
   }

@@ -36,10 +36,10 @@ abbrev pub apart : List ℕ → List ℕ → Bool
 apart [] others = true
 apart (n ∷ ns) others = lacks n others && apart ns others
 
-pub not-both : (n : ℕ) (numbers others : List ℕ) → apart numbers others ≡ true → OneOf n numbers → ¬ OneOf n others
-not-both n [] others p i o = elim i [ ]
-not-both n (m ∷ ms) others p (inl e) o = not_listed m others (and_left (lacks m others) _ p) (subst (λ n. OneOf n others) e o)
-not-both n (m ∷ ms) others p (inr i) o = not-both n ms others (and_right (lacks m others) _ p) i o
+pub not_both : (n : ℕ) (numbers others : List ℕ) → apart numbers others ≡ true → OneOf n numbers → ¬ OneOf n others
+not_both n [] others p i o = elim i [ ]
+not_both n (m ∷ ms) others p (inl e) o = not_listed m others (and_left (lacks m others) _ p) (subst (λ n. OneOf n others) e o)
+not_both n (m ∷ ms) others p (inr i) o = not_both n ms others (and_right (lacks m others) _ p) i o
 
 -- an answer with numbers of a list, in a longer one
 pub answered_later : (first numbers : List ℕ) (answer : Answer) → AcceptedOr numbers answer → AcceptedOr (first ++ numbers) answer
@@ -49,4 +49,4 @@ answered_later first numbers (Refused number place) a = one_of_later number firs
 -- an answer with numbers of one list has none of the other, in which is no 0
 pub not_answered : (numbers others : List ℕ) → apart (0 ∷ numbers) others ≡ true → (answer : Answer) → AcceptedOr numbers answer → ¬ OneOf (number_of answer) others
 not_answered numbers others p (Accepted count) a o = not_listed 0 others (and_left (lacks 0 others) _ p) o
-not_answered numbers others p (Refused number place) a o = not-both number numbers others (and_right (lacks 0 others) _ p) a o
+not_answered numbers others p (Refused number place) a o = not_both number numbers others (and_right (lacks 0 others) _ p) a o

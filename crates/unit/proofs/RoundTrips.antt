@@ -18,7 +18,7 @@ use Rattle.unit.specs.Reader.{read_in}
 use Rattle.unit.specs.Writer.{write_in}
 use Rattle.unit.specs.Exactly.{UnitTree, OneOf, no_tree_numbers, Bytes}
 use Rattle.unit.specs.Demand2.{Given, Exact, Demand2}
-use Rattle.unit.proofs.Accepts.{deliver-all, delivered}
+use Rattle.unit.proofs.Accepts.{deliver_all_lem, delivered}
 use Rattle.unit.proofs.Sound.{Sound, root_of_lem}
 use Rattle.unit.proofs.Luma.{luma_sound}
 use Rattle.unit.proofs.AcceptedTree.{AcceptedTree, accepted_tree, tree_back}
@@ -66,7 +66,7 @@ module _ {us : Units} (law : Sound us) (a : ℕ) where
       let d = delivered 17 (length (flags_of t)) (flags_of t) buffer (rw w at e) in
       let l = table_length (rows_of t) in
       let n : length (table_bytes (rows_of t)) / 8 ≡ length (rows_of t) = omega arith in
-      rw (w, d.1, ← d.0, take-append_seam (flags_of t) (drop (length (flags_of t)) buffer), n) ((reads_exactly law a h).reads t lent ∙ deliver-all 14 _ _ lent room)
+      rw (w, d.1, ← d.0, take-append_seam (flags_of t) (drop (length (flags_of t)) buffer), n) ((reads_exactly law a h).reads t lent ∙ deliver_all_lem 14 _ _ lent room)
 
   pub rows_back : (bytes : List ℕ) → Bytes bytes → (buffer : List ℕ) (m : ℕ) → (write_in us a bytes buffer).answer ≡ Accepted m → (lent : List ℕ) → length bytes ≤ length lent
       → read_in us a (take m (write_in us a bytes buffer).buffer) lent ≡ accepted (length bytes / 8) bytes lent
@@ -82,7 +82,7 @@ module _ {us : Units} (law : Sound us) (a : ℕ) where
   gives : refusal_in us a ≡ 0 → (t : UnitTree us a) → Given us a (table_bytes (rows_of t))
   gives h t =
       let table = table_bytes (rows_of t) in
-      let r = (reads_exactly law a h).reads t table ∙ deliver-all 14 _ _ table (omega arith) in
+      let r = (reads_exactly law a h).reads t table ∙ deliver_all_lem 14 _ _ table (omega arith) in
       let n : 8 * length (rows_of t) ≡ length table = sym (table_length (rows_of t)) in
       record {
         flags = flags_of t;

@@ -12,7 +12,7 @@ use Rattle.settings.proofs.Grid.{unit_taken}
 use Rattle.unit.specs.Units.{Units, refusal_in, root_in}
 use Rattle.unit.specs.Exactly.{OneOf}
 use Rattle.unit.specs.Faults.{UnitFault, bad_settings, no_unit}
-use Rattle.unit.proofs.Numbers.{one_of_more, one_of_later, apart, not-both}
+use Rattle.unit.proofs.Numbers.{one_of_more, one_of_later, apart, not_both}
 use Rattle.unit.proofs.Roots.{Root}
 
 pub record Sound (us : Units) : Type 0 where
@@ -60,7 +60,7 @@ module _ {us : Units} (law : Sound us) (a : ℕ) where
   later_listed rest number o = one_of_later number us.numbers (10 ∷ rest) (inr o)
 
   pub unit_other : {number : ℕ} → OneOf number (14 ∷ 17 ∷ []) → ¬ UnitFault us a number
-  unit_other {number} o (bad_settings f) = not-both number (10 ∷ 14 ∷ 17 ∷ []) us.numbers law.others (inr o) (law.listed f)
+  unit_other {number} o (bad_settings f) = not_both number (10 ∷ 14 ∷ 17 ∷ []) us.numbers law.others (inr o) (law.listed f)
   unit_other o (no_unit z l) = ten o
     where
       ten : ¬ OneOf 10 (14 ∷ 17 ∷ [])

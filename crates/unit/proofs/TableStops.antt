@@ -77,9 +77,9 @@ module _ {k : Kind} {root : Node} {rows : List Row} (delivery : List ℕ) (p : a
   -- "all other tables without a tree"
   other : (q : ℕ) → answer ≡ Refused 16 q → (¬ HasRows k root rows) × (¬ GoesOn k root rows) × (¬ GoesPast k root rows)
   other q e = (
-    λ t. (leaves q e).none-whole t.0 [] (sym t.1 ∙ sym (append-nil (rows_of t.0))),
+    λ t. (leaves q e).none_whole t.0 [] (sym t.1 ∙ sym (append-nil (rows_of t.0))),
     λ g. let f = stopped 27 _ (ends_early g) in never (cc),
-    λ g. (leaves q e).none-whole g.0 (g.1 ∷ g.2) g.3,
+    λ g. (leaves q e).none_whole g.0 (g.1 ∷ g.2) g.3,
   )
 
   no_other : (¬ HasRows k root rows) × (¬ GoesOn k root rows) × (¬ GoesPast k root rows) → (q : ℕ) × (answer ≡ Refused 16 q)

@@ -16,9 +16,9 @@ use Rattle.walks.proofs.Open.{handed_over}
 use Rattle.walks.proofs.RowFields.{corner_says, right_says, bottom_says}
 
 module _ {u : List ℕ} {k : Kind} (t : u ≡ table_of k) {n : Node} {row depths : ℕ} (s : Outer k n (word row depths)) where
-  pub corner-is : corner_inside (limits_in u) (node_in row) ≡ corner_inside k.limits n
+  pub corner_is : corner_inside (limits_in u) (node_in row) ≡ corner_inside k.limits n
   unfolding table_of
-  corner-is = rw t (corner_says s.placed s.row k.limits)
+  corner_is = rw t (corner_says s.placed s.row k.limits)
 
   pub right_is : right_out (limits_in u) (node_in row) ≡ right_out k.limits n
   unfolding table_of
@@ -39,7 +39,7 @@ out_splits_is u row depths r b e = e ∙ ap₂ (λ x y. out_in u row depths x y)
 module _ {A S : Type 0} (way : Way A S) {u : List ℕ} {c row depths : ℕ} where
   -- it is skipped
   pub edge_gone : way.stored [] ≡ [] → corner_inside (limits_in u) (node_in row) ≡ false → {b : List ℕ} → Walked way Outer u c (word row depths ∷ []) b c b
-  edge_gone none e = each_case way Outer u c (word row depths) (λ k n s at. one_gone way none k n s c _ (sym (corner-is at.table at.stands_for) ∙ e) at.placed)
+  edge_gone none e = each_case way Outer u c (word row depths) (λ k n s at. one_gone way none k n s c _ (sym (corner_is at.table at.stands_for) ∙ e) at.placed)
 
   -- it lies inside the picture
   module _ (here : corner_inside (limits_in u) (node_in row) ≡ true) (within : is_out (limits_in u) (node_in row) ≡ false) {bound splits : ℕ} (b-is : bound ≡ bound_in u depths) (s-is : splits ≡ inner_in u row depths) where
@@ -49,7 +49,7 @@ module _ {A S : Type 0} (way : Way A S) {u : List ℕ} {c row depths : ℕ} wher
         stands : Inside bound k n (word row splits)
         stands =
             let o = at.stands_for in
-            rw (b-is, s-is, at.table) (handed_over at.proper o (sym (corner-is at.table o) ∙ here) (ap not (sym (out_is at.table o) ∙ within)))
+            rw (b-is, s-is, at.table) (handed_over at.proper o (sym (corner_is at.table o) ∙ here) (ap not (sym (out_is at.table o) ∙ within)))
 
     pub handed_asked : Asked way Outer u c (word row depths ∷ []) → Asked way (Inside bound) u c (word row splits ∷ [])
     handed_asked a = some_case way Outer u c (word row depths) a (λ k n s at. record { kind = k; nodes = n ∷ []; state = s; ready = handed_ready at })

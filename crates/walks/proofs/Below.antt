@@ -30,10 +30,10 @@ abbrev cuts : Bool → Bool → ℕ
 cuts mh mv = bit (not mh) 2 + bit (not mv) 4 + 24
 
 -- what a node keeps, from what says it
-keeps-is : (l : Limits) (n : Node) {q x mh mv : Bool} → eqb n.mtt 0 ≡ q → ltb n.mtt (l.maxmtt + n.offset) ≡ x → closed_middle n Horizontal ≡ mh → closed_middle n Vertical ≡ mv
+keeps_is : (l : Limits) (n : Node) {q x mh mv : Bool} → eqb n.mtt 0 ≡ q → ltb n.mtt (l.maxmtt + n.offset) ≡ x → closed_middle n Horizontal ≡ mh → closed_middle n Vertical ≡ mv
     → open_splits (keeps l n) ≡ bit x (cuts mh mv) + bit q 1
 unfolding open_splits
-keeps-is l n {q} {x} {mh} {mv} eq ex eh ev = rw (eq, ex, eh, ev) (go q x mh mv)
+keeps_is l n {q} {x} {mh} {mv} eq ex eh ev = rw (eq, ex, eh, ev) (go q x mh mv)
   where
     go : (q x mh mv : Bool) → bit q 1 + bit (x && not mh) 2 + bit (x && not mv) 4 + bit x 8 + bit x 16 ≡ bit x (cuts mh mv) + bit q 1
     go true true true true = refl
@@ -56,16 +56,16 @@ middle_cuts Vertical true = refl
 middle_cuts Vertical false = refl
 
 module _ (l : Limits) (n : Node) where
-  pub quad-keeps : (i : ℕ) → let c = child l n Quad (share_at Quad i) in open_splits (keeps l c) ≡ bit (ltb c.mtt (l.maxmtt + c.offset)) 30 + 1
+  pub quad_keeps : (i : ℕ) → let c = child l n Quad (share_at Quad i) in open_splits (keeps l c) ≡ bit (ltb c.mtt (l.maxmtt + c.offset)) 30 + 1
   unfolding child child_mtt
-  quad-keeps i = keeps-is l (child l n Quad (share_at Quad i)) refl refl refl refl
+  quad_keeps i = keeps_is l (child l n Quad (share_at Quad i)) refl refl refl refl
 
   pub binary_keeps : (d : Direction) (i : ℕ) → let c = child l n (Binary d) (share_at (Binary d) i) in open_splits (keeps l c) ≡ bit (ltb c.mtt (l.maxmtt + c.offset)) 30 + 0
   unfolding child child_mtt
   binary_keeps d i =
       let c = child l n (Binary d) (share_at (Binary d) i) in
       let e : (e : Direction) → closed_middle c e ≡ false = λ e. and_no (ltb 0 (n.mtt + 1) && eqb (share_at (Binary d) i).part 1) false refl in
-      keeps-is l c (ne_eqb (n.mtt + 1) 0 (λ z. omega arith)) refl (e Horizontal) (e Vertical)
+      keeps_is l c (ne_eqb (n.mtt + 1) 0 (λ z. omega arith)) refl (e Horizontal) (e Vertical)
 
   pub ternary_keeps : (d : Direction) (i : ℕ) → (share_at (Ternary d) i).part ≡ i
       → let c = child l n (Ternary d) (share_at (Ternary d) i) in open_splits (keeps l c) ≡ bit (ltb c.mtt (l.maxmtt + c.offset)) (cuts_of d i) + 0
@@ -74,7 +74,7 @@ module _ (l : Limits) (n : Node) where
       let c = child l n (Ternary d) (share_at (Ternary d) i) in
       let m = lt-ltb 0 (n.mtt + 1) (omega arith) in
       let e : (e : Direction) → closed_middle c e ≡ (eqb i 1 && same_direction e d) = λ e. rw (m, p) in
-      keeps-is l c (ne_eqb (n.mtt + 1) 0 (λ z. omega arith)) refl (e Horizontal) (e Vertical)
+      keeps_is l c (ne_eqb (n.mtt + 1) 0 (λ z. omega arith)) refl (e Horizontal) (e Vertical)
       ∙ ap (λ b. bit (ltb c.mtt (l.maxmtt + c.offset)) b + 0) (sym (middle_cuts d (eqb i 1)))
 
 -- ---- inside the picture: a row below the bound
@@ -105,7 +105,7 @@ module _ (k : Kind) (n : Node) where
   above_depths em eo =
       let l = k.limits in
       let m : (d : Direction) → closed_middle n d ≡ false = λ d. rw (le-ltb 0 n.mtt (omega arith)) in
-      let e = keeps-is l n (eq-eqb n.mtt 0 em) (ap₂ ltb em (let z : l.maxmtt + n.offset ≡ l.maxmtt = omega arith in z)) (m Horizontal) (m Vertical) in
+      let e = keeps_is l n (eq-eqb n.mtt 0 em) (ap₂ ltb em (let z : l.maxmtt + n.offset ≡ l.maxmtt = omega arith in z)) (m Horizontal) (m Vertical) in
       omega arith
 
   module _ {row depths : ℕ} (p : Placed k.limits n) (is : row ≡ row_word (row_of n)) (left : depths ≡ n.offset * 64 + open_splits (keeps k.limits n)) (d : Direction) where

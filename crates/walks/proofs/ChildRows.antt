@@ -18,7 +18,7 @@ use Rattle.blocks.specs.RowNumbers.{row_word}
 use Rattle.laws.proofs.Parts.{Piece, no_piece, slice}
 use Rattle.nodes.specs.RowNodes.{node_in, fall, deeper, step_to, child_row}
 use Rattle.walks.specs.Stands.{Placed}
-use Rattle.walks.proofs.Sides.{one_least, exponent_of, exponent-falls}
+use Rattle.walks.proofs.Sides.{one_least, exponent_of, exponent_falls}
 use Rattle.walks.proofs.RowFields.{packed, Fits, row_packed, fits, width_says, height_says}
 
 -- ---- six numbers in one, and a step
@@ -69,8 +69,8 @@ module _ {l : Limits} {n : Node} {row : ℕ} (s : Placed l n) (is : row ≡ row_
         b_fits = (exponent_of f.high).small;
         f_small = fall_small p.wide;
         g_small = fall_small p.high;
-        a_falls = exponent-falls f.wide p.wide (one_least c.wide) (omega arith) v.long_not;
-        b_falls = exponent-falls f.high p.high (one_least c.high) (omega arith) h.long_not;
+        a_falls = exponent_falls f.wide p.wide (one_least c.wide) (omega arith) v.long_not;
+        b_falls = exponent_falls f.high p.high (one_least c.high) (omega arith) h.long_not;
       }
 
   -- the step as the node says it
@@ -87,9 +87,9 @@ module _ {l : Limits} {n : Node} {row : ℕ} (s : Placed l n) (is : row ≡ row_
       let hm = c.mtt_fits_lem in
       rw (step_is, ed, row_packed c, eq, em, row_is) (cut_packed part_step n.qt n.mtt (fits s).qt_fits_lem (omega arith))
 
-  quad-row : (child l n d p).qt ≡ n.qt + 1 → (child l n d p).mtt ≡ 0 → deeper d ≡ 281474976710656 → row % 72057594037927936 + step_to row d p ≡ row_word (row_of (child l n d p))
+  quad_row : (child l n d p).qt ≡ n.qt + 1 → (child l n d p).mtt ≡ 0 → deeper d ≡ 281474976710656 → row % 72057594037927936 + step_to row d p ≡ row_word (row_of (child l n d p))
   unfolding child
-  quad-row eq em ed =
+  quad_row eq em ed =
       let hq = c.qt_fits_lem in
       rw (step_is, ed, row_packed c, eq, em, row_is) (quad_packed part_step n.qt n.mtt (omega arith) (fits s).mtt_fits_lem)
 
@@ -105,10 +105,10 @@ word_fits f =
     let e = row_packed f in
     omega arith
 
-pub child-row : {l : Limits} {n : Node} {row : ℕ} → Placed l n → row ≡ row_word (row_of n) → (d : Decision) (i : ℕ) → Piece d (share_at d i) → Fits (child l n d (share_at d i))
+pub child_row_lem : {l : Limits} {n : Node} {row : ℕ} → Placed l n → row ≡ row_word (row_of n) → (d : Decision) (i : ℕ) → Piece d (share_at d i) → Fits (child l n d (share_at d i))
     → child_row row d i ≡ row_word (row_of (child l n d (share_at d i)))
 unfolding child_row child child_qt child_mtt
-child-row s is Leaf i piece c = no_piece piece
-child-row s is Quad i piece c = ap (λ r. r % 18446744073709551616) (quad-row s is piece c refl refl refl) ∙ word_fits c
-child-row s is (Binary d) i piece c = cut_row s is piece c refl refl refl
-child-row s is (Ternary d) i piece c = cut_row s is piece c refl refl refl
+child_row_lem s is Leaf i piece c = no_piece piece
+child_row_lem s is Quad i piece c = ap (λ r. r % 18446744073709551616) (quad_row s is piece c refl refl refl) ∙ word_fits c
+child_row_lem s is (Binary d) i piece c = cut_row s is piece c refl refl refl
+child_row_lem s is (Ternary d) i piece c = cut_row s is piece c refl refl refl

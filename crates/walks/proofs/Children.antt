@@ -25,7 +25,7 @@ use Rattle.laws.specs.Proper.{Proper}
 use Rattle.laws.specs.Shape.{Shape}
 use Rattle.laws.proofs.Depths.{one_deeper}
 use Rattle.laws.proofs.Edge.{good_child}
-use Rattle.laws.proofs.Levels.{child-shorter}
+use Rattle.laws.proofs.Levels.{child_shorter}
 use Rattle.laws.proofs.Multiples.{fold_least}
 use Rattle.laws.proofs.Opens.{quad_open_lem, binary_open_lem, ternary_open_lem}
 use Rattle.laws.proofs.Parts.{Piece, pieces, child_end}
@@ -37,8 +37,8 @@ use Rattle.nodes.specs.RowNodes.{inner_in, child_row, open_below}
 use Rattle.walks.specs.Stands.{Word, word, keeps, Placed, Outer, Inside, AllStand, no_more, one_more}
 use Rattle.walks.specs.Kids.{inner_kids, outer_kids}
 use Rattle.walks.proofs.RowFields.{fits, row_says}
-use Rattle.walks.proofs.ChildRows.{child-row}
-use Rattle.walks.proofs.Below.{quad-keeps, binary_keeps, ternary_keeps, below_bound, above_depths, below_depths}
+use Rattle.walks.proofs.ChildRows.{child_row_lem}
+use Rattle.walks.proofs.Below.{quad_keeps, binary_keeps, ternary_keeps, below_bound, above_depths, below_depths}
 use Rattle.walks.proofs.Open.{masked, inner_open}
 
 pub inside_placed : (bound : ℕ) (k : Kind) (n : Node) (w : Word) → Inside bound k n w → Placed k.limits n
@@ -81,7 +81,7 @@ module _ {k : Kind} (v : Proper k) {n : Node} {row : ℕ} (s : Placed k.limits n
         let b = ends Horizontal in
         let sr = s.right in
         let sb = s.bottom in
-        let shorter = child-shorter k.limits n s.good.shape piece in
+        let shorter = child_shorter k.limits n s.good.shape piece in
         let deeper = one_deeper k.limits n d (share_at d i) in
         let sum = s.sum in
         record {
@@ -94,13 +94,13 @@ module _ {k : Kind} (v : Proper k) {n : Node} {row : ℕ} (s : Placed k.limits n
 
     small : (kid i).w + (kid i).h < 256
     small =
-        let a = child-shorter k.limits n s.good.shape piece in
+        let a = child_shorter k.limits n s.good.shape piece in
         let w = (s.good.shape.side Vertical).most in
         let h = (s.good.shape.side Horizontal).most in
         omega arith
 
     own_row : child_row row d i ≡ row_word (row_of (kid i))
-    own_row = child-row s is d i piece (fits placed)
+    own_row = child_row_lem s is d i piece (fits placed)
 
     -- by the splits that its depths leave it
     pub kid_outer : {m : ℕ} → m ≡ (kid i).offset * 64 + open_splits (keeps k.limits (kid i)) → Outer k (kid i) (word (child_row row d i) m)
@@ -171,7 +171,7 @@ module _ {k : Kind} (v : Proper k) {bound : ℕ} {n : Node} {row splits : ℕ} (
   inner_kids_lem Quad ok =
       let p = pieces Quad in
       let c = like Quad ok 0 p.0 30 1 in
-      let q = quad-keeps k.limits n in
+      let q = quad_keeps k.limits n in
       one_more (c 0 p.0 refl refl refl (q 0)) (one_more (c 1 p.1.0 refl refl refl (q 1)) (one_more (c 2 p.1.1.0 refl refl refl (q 2)) (one_more (c 3 p.1.1.1.0 refl refl refl (q 3)) no_more)))
   inner_kids_lem (Binary Horizontal) ok =
       let p = pieces (Binary Horizontal) in

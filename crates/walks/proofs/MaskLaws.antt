@@ -18,17 +18,17 @@ bit_is false k = omega arith
 abbrev under : ℕ → Bool → ℕ
 under m a = m * 2 + bit a 1
 
-bit-and : (a b : Bool) → bit_and (bit a 1) (bit b 1) ≡ bit (a && b) 1
-bit-and true true = refl
-bit-and true false = refl
-bit-and false true = refl
-bit-and false false = refl
+bit_and_lem : (a b : Bool) → bit_and (bit a 1) (bit b 1) ≡ bit (a && b) 1
+bit_and_lem true true = refl
+bit_and_lem true false = refl
+bit_and_lem false true = refl
+bit_and_lem false false = refl
 
-under-and : (m n : ℕ) (a b : Bool) → bit_and (under m a) (under n b) ≡ under (bit_and m n) (a && b)
-under-and m n a b =
+under_and : (m n : ℕ) (a b : Bool) → bit_and (under m a) (under n b) ≡ under (bit_and m n) (a && b)
+under_and m n a b =
     let p = bit_most a 1 in
     let q = bit_most b 1 in
-    and_block 1 m n (bit a 1) (bit b 1) (omega arith) (omega arith) ∙ ap (λ k. bit_and m n * 2 + k) (bit-and a b)
+    and_block 1 m n (bit a 1) (bit b 1) (omega arith) (omega arith) ∙ ap (λ k. bit_and m n * 2 + k) (bit_and_lem a b)
 
 -- ---- the five digits of open splits
 
@@ -46,11 +46,11 @@ five_is r =
 
 five_and : (a b : Rights) → bit_and (five a) (five b) ≡ five (both a b)
 five_and a b =
-    under-and _ _ a.quad b.quad
-    ∙ ap (λ m. under m (a.quad && b.quad)) (under-and _ _ (a.binary Horizontal) (b.binary Horizontal)
-    ∙ ap (λ m. under m (a.binary Horizontal && b.binary Horizontal)) (under-and _ _ (a.binary Vertical) (b.binary Vertical)
-    ∙ ap (λ m. under m (a.binary Vertical && b.binary Vertical)) (under-and _ _ (a.ternary Horizontal) (b.ternary Horizontal)
-    ∙ ap (λ m. under m (a.ternary Horizontal && b.ternary Horizontal)) (bit-and (a.ternary Vertical) (b.ternary Vertical)))))
+    under_and _ _ a.quad b.quad
+    ∙ ap (λ m. under m (a.quad && b.quad)) (under_and _ _ (a.binary Horizontal) (b.binary Horizontal)
+    ∙ ap (λ m. under m (a.binary Horizontal && b.binary Horizontal)) (under_and _ _ (a.binary Vertical) (b.binary Vertical)
+    ∙ ap (λ m. under m (a.binary Vertical && b.binary Vertical)) (under_and _ _ (a.ternary Horizontal) (b.ternary Horizontal)
+    ∙ ap (λ m. under m (a.ternary Horizontal && b.ternary Horizontal)) (bit_and_lem (a.ternary Vertical) (b.ternary Vertical)))))
 
 pub splits_small : (r : Rights) → open_splits r < 32
 unfolding open_splits

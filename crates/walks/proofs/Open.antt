@@ -48,9 +48,9 @@ apart true false h false false = refl
 apart false w h false true = refl
 apart false w h false false = refl
 
-and-true : (a : Bool) → (a && true) ≡ a
-and-true true = refl
-and-true false = refl
+and_true : (a : Bool) → (a && true) ≡ a
+and_true true = refl
+and_true false = refl
 
 and_after : (a b c : Bool) → ((a && b) && c) ≡ (a && (b && c))
 and_after true b c = refl
@@ -142,7 +142,7 @@ module _ (k : Kind) {n : Node} {row : ℕ} (p : Placed k.limits n) (is : row ≡
     unfolding rights_of
     out_masks =
         same_splits (both (by_masks k n) edge) (rights_of k n)
-        (and-true (by_masks k n).quad ∙ masks_quad k n ∙ ap (λ b. not (closes k n Quad) && b) (quad_side k.limits n))
+        (and_true (by_masks k n).quad ∙ masks_quad k n ∙ ap (λ b. not (closes k n Quad) && b) (quad_side k.limits n))
         (λ d. ap (λ b. b && edge.binary d) (masks_binary k n d) ∙ and_after (not (closes k n (Binary d))) _ _
         ∙ ap (λ b. not (closes k n (Binary d)) && b) (ap (λ e. (by_sides k.limits n).binary d && e) (edge_quad right bottom refl refl d) ∙ binary_edge k.limits n out d))
         (λ d. ap (λ b. b && false) (masks_ternary k n d) ∙ and_after (not (closes k n (Ternary d))) _ _
@@ -183,7 +183,7 @@ module _ {k : Kind} (v : Proper k) {n : Node} {row depths : ℕ} (s : Outer k n 
 
     one_binary : (h v : Bool) → (rights_of k n).binary Horizontal ≡ h → (rights_of k n).binary Vertical ≡ v → (h && v) ≡ false
     one_binary true true eh ev =
-        clash (cut_out k.limits n Horizontal (binary_open_lem k n Horizontal eh).across out) (sym (and-true (bottom_out k.limits n)) ∙ (binary_open_lem k n Vertical ev).across)
+        clash (cut_out k.limits n Horizontal (binary_open_lem k n Horizontal eh).across out) (sym (and_true (bottom_out k.limits n)) ∙ (binary_open_lem k n Vertical ev).across)
     one_binary true false eh ev = refl
     one_binary false v eh ev = refl
 

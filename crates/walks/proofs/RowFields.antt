@@ -10,7 +10,7 @@ use Rattle.tree.specs.Splits.{right_out, bottom_out, open_splits}
 use Rattle.tree.specs.Children.{corner_inside}
 use Rattle.tree.specs.Rows.{Row, row_of}
 use Rattle.blocks.specs.RowNumbers.{row_word}
-use Rattle.blocks.proofs.RowNumbers.{word-is}
+use Rattle.blocks.proofs.RowNumbers.{word_is}
 use Rattle.laws.specs.Shape.{Shape}
 use Rattle.laws.proofs.Multiples.{fold_least}
 use Rattle.laws.proofs.Sides.{One, one_of}
@@ -53,7 +53,7 @@ module _ (r : Row) (hx : r.x < 65536) (hy : r.y < 65536) (hw : r.ew < 8) (hh : r
       let h : r.eh % 256 ≡ r.eh = omega arith in
       let q : r.qt % 256 ≡ r.qt = omega arith in
       let m : r.mtt % 256 ≡ r.mtt = omega arith in
-      sym (word-is r) ∙ rw (x, y, w, h, q, m)
+      sym (word_is r) ∙ rw (x, y, w, h, q, m)
 
   pub row_six : Six (row_word r) r.x r.y r.ew r.eh r.qt r.mtt
   row_six = unpacked hx hy hw hh hq hm (row_word r) packed_row

@@ -69,14 +69,14 @@ module _ (deep tw th cut : Bool) where
 abbrev pub by_sides : Limits → Node → Rights
 by_sides l n = both (both (keeps l n) (side_rights Vertical l n.w)) (side_rights Horizontal l n.h)
 
-quad-both : (t s : Bool) → (t && s && true) ≡ (t && s)
-quad-both true true = refl
-quad-both true false = refl
-quad-both false s = refl
+quad_both : (t s : Bool) → (t && s && true) ≡ (t && s)
+quad_both true true = refl
+quad_both true false = refl
+quad_both false s = refl
 
 -- QT plays by the same rule wherever the node lies
 pub quad_side : (l : Limits) (n : Node) → (by_sides l n).quad ≡ quad_open l n
-quad_side l n = quad-both (eqb n.mtt 0) (ltb l.minqt n.w)
+quad_side l n = quad_both (eqb n.mtt 0) (ltb l.minqt n.w)
 
 module _ (l : Limits) (n : Node) (w : One n.w) (h : One n.h) (small : n.w + n.h < 256) (within : inside l n ≡ true) where
   right_in : right_out l n ≡ false

@@ -117,23 +117,23 @@ quarter_falls one_32 h = refl
 quarter_falls one_64 h = refl
 quarter_falls one_128 h = refl
 
-whole-falls : {n : ℕ} → One n → exponent (n / 4 * 4) + 0 ≡ exponent n
+whole_falls : {n : ℕ} → One n → exponent (n / 4 * 4) + 0 ≡ exponent n
 unfolding count_trailing_zeros
-whole-falls one_4 = refl
-whole-falls one_8 = refl
-whole-falls one_16 = refl
-whole-falls one_32 = refl
-whole-falls one_64 = refl
-whole-falls one_128 = refl
+whole_falls one_4 = refl
+whole_falls one_8 = refl
+whole_falls one_16 = refl
+whole_falls one_32 = refl
+whole_falls one_64 = refl
+whole_falls one_128 = refl
 
 -- so many quarters of a side have an exponent less by their fall
-pub exponent-falls : {n : ℕ} → One n → (q : ℕ) → 4 ≤ n / 4 * q → q ≤ 4 → ¬ (q ≡ 3) → exponent (n / 4 * q) + fall q ≡ exponent n
-exponent-falls o zero h k t = absurd (omega arith)
-exponent-falls o (suc zero) h k t = quarter_falls o h
-exponent-falls o (suc (suc zero)) h k t = half_falls o h
-exponent-falls o (suc (suc (suc zero))) h k t = absurd (t refl)
-exponent-falls o (suc (suc (suc (suc zero)))) h k t = whole-falls o
-exponent-falls o (suc (suc (suc (suc (suc q))))) h k t = absurd (omega arith)
+pub exponent_falls : {n : ℕ} → One n → (q : ℕ) → 4 ≤ n / 4 * q → q ≤ 4 → ¬ (q ≡ 3) → exponent (n / 4 * q) + fall q ≡ exponent n
+exponent_falls o zero h k t = absurd (omega arith)
+exponent_falls o (suc zero) h k t = quarter_falls o h
+exponent_falls o (suc (suc zero)) h k t = half_falls o h
+exponent_falls o (suc (suc (suc zero))) h k t = absurd (t refl)
+exponent_falls o (suc (suc (suc (suc zero)))) h k t = whole_falls o
+exponent_falls o (suc (suc (suc (suc (suc q))))) h k t = absurd (omega arith)
 
 pub not_large : (n : ℕ) → ltb 64 n ≡ not (leb n 64)
 not_large n = go (dec_lt 64 n)

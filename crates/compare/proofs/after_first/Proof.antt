@@ -5,21 +5,21 @@ use Rattle.unit.specs.declared.Answer.TheVariants.{Accepted}
 use Rattle.compare.specs.Finer.{finer_by, finer_number}
 use Rattle.compare.specs.Tests.{Passes}
 use Rattle.compare.proofs.Equal.{turned}
-use Rattle.compare.proofs.Calls.{second_refused, both-accepted}
+use Rattle.compare.proofs.Calls.{second_refused, both_accepted}
 use Rattle.compare.proofs.after_first.Statement.{statement}
 use Rattle.compare.proofs.after_first.Tie as tie
 
 -- the second table passes, too
-second-passes : (c : tie.In-Accepted)
+second_passes : (c : tie.In-Accepted)
     → Passes (luma c.args.l) c.args.root c.args.second.now
-second-passes c = record { flags = _; answer = sym c.test_table.ensures ∙ c.in-Accepted.is }
+second_passes c = record { flags = _; answer = sym c.test_table.ensures ∙ c.in-Accepted.is }
 
 test_table-requires : tie.Need-test_table-requires
 test_table-requires c κs = c.requires.0.rooted
 
 finer_or_equal-finer-requires : tie.Need-finer_or_equal-finer-requires
 finer_or_equal-finer-requires c κs =
-    c.requires.0.comparable c.args.first.now c.args.second.now c.requires.1 (second-passes c)
+    c.requires.0.comparable c.args.first.now c.args.second.now c.requires.1 (second_passes c)
 
 finer_or_equal-coarser-requires : tie.Need-finer_or_equal-coarser-requires
 finer_or_equal-coarser-requires c κs = turned (finer_or_equal-finer-requires c.before κs)
@@ -31,7 +31,7 @@ returns-in-Refused c =
 returns-in-Accepted : tie.Need-returns-in-Accepted
 returns-in-Accepted c =
     let number : c.number.result ≡ finer_number (finer_by c.finer_or_equal-finer.result c.finer_or_equal-coarser.result) = c.number.ensures ∙ ap finer_number c.compared.ensures in
-    let accepted = both-accepted (luma c.args.l) c.args.root c.args.first.now c.args.second.now c.requires.1 (second-passes c.before.before.before.before) in
+    let accepted = both_accepted (luma c.args.l) c.args.root c.args.first.now c.args.second.now c.requires.1 (second_passes c.before.before.before.before) in
     ap Accepted number ∙ ap₂ (λ a b. Accepted (finer_number (finer_by a b))) c.finer_or_equal-finer.ensures c.finer_or_equal-coarser.ensures ∙ sym accepted
 
 pub after_first_spec : {M : Type 1} → statement M

@@ -2,7 +2,7 @@ use mathlib.Core.Path.{◌≡◌, refl}
 use borrow.Author.Rules.{rules}
 use Rattle.settings.specs.Units.{unit_count, square_at, refusal_at, located_by}
 use Rattle.unit.specs.Luma.{limits_of}
-use Rattle.unit.proofs.Located.{settings-refused, settings_passed}
+use Rattle.unit.proofs.Located.{settings_refused, settings_passed}
 use Rattle.walks.proofs.UnitRoots.{found_rooted}
 use Rattle.reader.proofs.Looked.{none_read, there_read}
 use Rattle.reader.proofs.read_checked.Statement.{statement}
@@ -11,7 +11,7 @@ use Rattle.reader.proofs.read_checked.Tie as tie
 returns-then-refusal-ne0 : tie.Need-returns-then-refusal-ne0
 returns-then-refusal-ne0 c =
     let a = c.args in
-    none_read (limits_of a.s) (settings-refused c.if-refusal-ne0.true (unit_count a.s) a.address (square_at a.s a.address)) a.flags.now a.rows.now refl
+    none_read (limits_of a.s) (settings_refused c.if-refusal-ne0.true (unit_count a.s) a.address (square_at a.s a.address)) a.flags.now a.rows.now refl
 
 locate-requires : tie.Need-locate-requires
 locate-requires c κs = c.requires.grid c.if-refusal-ne0.false

@@ -2,7 +2,7 @@ use mathlib.Core.Path.{◌≡◌, refl, sym, ◌∙◌}
 use borrow.Author.Rules.{rules}
 use Rattle.settings.specs.Units.{unit_count, square_at, refusal_at, located_by}
 use Rattle.unit.specs.Luma.{limits_of}
-use Rattle.unit.proofs.Located.{settings-refused, settings_passed}
+use Rattle.unit.proofs.Located.{settings_refused, settings_passed}
 use Rattle.walks.proofs.UnitRoots.{found_rooted}
 use Rattle.writer.proofs.Looked.{none_written, there_written}
 use Rattle.writer.proofs.QuadLeaf.{quad_written}
@@ -12,7 +12,7 @@ use Rattle.writer.proofs.write_checked.Tie as tie
 returns-then-refusal-ne0 : tie.Need-returns-then-refusal-ne0
 returns-then-refusal-ne0 c =
     let a = c.args in
-    none_written (limits_of a.s) (settings-refused c.if-refusal-ne0.true (unit_count a.s) a.address (square_at a.s a.address)) a.rows.now refl a.flags.now
+    none_written (limits_of a.s) (settings_refused c.if-refusal-ne0.true (unit_count a.s) a.address (square_at a.s a.address)) a.rows.now refl a.flags.now
 
 returns-then-is_quad_leaf : tie.Need-returns-then-is_quad_leaf
 returns-then-is_quad_leaf c =

@@ -11,8 +11,8 @@ use Rattle.back.proofs.inside.leaf.Tie as tie
 on_row : (c r : ℕ) → given_of c < 2048 → place_of c ≤ 8192 → r ≡ (c + 8) % 2 ^ 64 → (given_of r ≡ given_of c) × (place_of r ≡ place_of c + 8)
 on_row c r few near e = (omega arith, omega arith)
 
-on-flag : (c m r : ℕ) → given_of c < 2048 → place_of c ≤ 8192 → m ≡ (c + 8) % 2 ^ 64 → r ≡ (m + 4294967296) % 2 ^ 64 → (given_of r ≡ given_of c + 1) × (place_of r ≡ place_of c + 8)
-on-flag c m r few near e f = let g = on_row c m few near e in (omega arith, omega arith)
+on_flag : (c m r : ℕ) → given_of c < 2048 → place_of c ≤ 8192 → m ≡ (c + 8) % 2 ^ 64 → r ≡ (m + 4294967296) % 2 ^ 64 → (given_of r ≡ given_of c + 1) × (place_of r ≡ place_of c + 8)
+on_flag c m r few near e f = let g = on_row c m few near e in (omega arith, omega arith)
 
 returns-then-splits-eq0 : tie.Need-returns-then-splits-eq0
 returns-then-splits-eq0 c =
@@ -21,7 +21,7 @@ returns-then-splits-eq0 c =
 
 returns : tie.Need-returns
 returns c =
-    let on = on-flag c.args.c _ _ c.requires.0 c.requires.1 c.further-2.ensures c.one_more.ensures in
+    let on = on_flag c.args.c _ _ c.requires.0 c.requires.1 c.further-2.ensures c.one_more.ensures in
     (rw (on.0, c.count.ensures.0) (stored_leaf _ (omega arith) c.requires.3 c.if-splits-eq0.false), on.1)
 
 pub leaf_spec : {M : Type 1} → statement M

@@ -1,5 +1,5 @@
 use Rattle.tree.specs.Rows.{row_of}
-use Rattle.blocks.proofs.RowNumbers.{word-is}
+use Rattle.blocks.proofs.RowNumbers.{word_is}
 use borrow.Author.Rules.{rules}
 use Rattle.blocks.proofs.rows.row_word.Statement.{statement}
 use Rattle.blocks.proofs.rows.row_word.Tie as tie
@@ -54,7 +54,7 @@ overflow_add-result-2 c = search rules
 
 returns : tie.Need-returns
 unfolding row_of
-returns c = rw (c.stored_exponent-2.ensures.0, c.stored_exponent.ensures.0) (word-is (row_of c.args.n))
+returns c = rw (c.stored_exponent-2.ensures.0, c.stored_exponent.ensures.0) (word_is (row_of c.args.n))
 
 pub row_word_spec : {M : Type 1} → statement M
 row_word_spec =

@@ -6,7 +6,7 @@ use Rattle.tree.specs.Rows.{rows_in}
 use Rattle.marks.specs.Table.{rows_left}
 use Rattle.cells.specs.Held.{filled_by}
 use Rattle.cells.proofs.Holding.{filled_long}
-use Rattle.compare.proofs.Passing.{from_first, word-inside, fill_next, fill_last}
+use Rattle.compare.proofs.Passing.{from_first, word_inside, fill_next, fill_last}
 use Rattle.compare.proofs.tables.fill_table.Statement.{statement}
 use Rattle.compare.proofs.tables.fill_table.Tie as tie
 
@@ -27,7 +27,7 @@ word_at-requires c κs = omega arith
 
 fill-requires : tie.Need-fill-requires invariant-loop-k decreases-loop-k
 fill-requires c κs =
-    (c.loop-k.invariant.1, word-inside c.args.rows.now c.loop-k.k c.word_at.ensures c.loop-k-test.true c.requires.1)
+    (c.loop-k.invariant.1, word_inside c.args.rows.now c.loop-k.k c.word_at.ensures c.loop-k-test.true c.requires.1)
 
 overflow_add-k : tie.Need-overflow_add-k invariant-loop-k decreases-loop-k
 overflow_add-k c = omega arith

@@ -3,7 +3,7 @@ use mathlib.Core.Bool.{false}
 use native.Mathlib.Omega.{arith}
 use Rattle.sides.proofs.Bools.{clash}
 use Rattle.tree.specs.Splits.{rights_in, allows, is_split}
-use Rattle.flags.proofs.Puts.{stored-quad, stored_binary, stored_ternary}
+use Rattle.flags.proofs.Puts.{stored_quad, stored_binary, stored_ternary}
 use borrow.Author.Rules.{rules}
 use Rattle.flags.proofs.put.put_split.Statement.{statement}
 use Rattle.flags.proofs.put.put_split.Tie as tie
@@ -14,7 +14,7 @@ returns-in-Leaf c = clash (ap is_split (sym c.in-Leaf.is) ∙ c.requires.2) refl
 returns-in-Quad : tie.Need-returns-in-Quad
 returns-in-Quad c =
     let e = c.in-Quad.is in
-    rw e (stored-quad c.args.splits (omega arith) (ap (allows (rights_in false c.args.splits)) (sym e) ∙ c.requires.3) c.horizontal.ensures c.vertical.ensures c.put.ensures.0)
+    rw e (stored_quad c.args.splits (omega arith) (ap (allows (rights_in false c.args.splits)) (sym e) ∙ c.requires.3) c.horizontal.ensures c.vertical.ensures c.put.ensures.0)
 
 returns-in-Binary : tie.Need-returns-in-Binary
 returns-in-Binary c =

@@ -8,11 +8,11 @@ use Rattle.marks.proofs.Found.{Shows, area_is, left_is, top_is, shows, cut_flat,
 use Rattle.marks.proofs.ahead.cut_ahead.Statement.{statement}
 use Rattle.marks.proofs.ahead.cut_ahead.Tie as tie
 
-area-most : (h : tie.After-height) → h.width.result * h.height.result ≤ 16384
-area-most h = mul-le-mul h.width.ensures.1 h.height.ensures.1
+area_most : (h : tie.After-height) → h.width.result * h.height.result ≤ 16384
+area_most h = mul-le-mul h.width.ensures.1 h.height.ensures.1
 
 overflow_mul-area : tie.Need-overflow_mul-area
-overflow_mul-area c = let p = area-most c in omega arith
+overflow_mul-area c = let p = area_most c in omega arith
 
 -- its shares from the table, and the cells that they are
 two : (s : tie.After-share_of) → s.share_of.result ≡ 2
@@ -24,16 +24,16 @@ unfolding share_table
 one s = s.share_of-2.ensures
 
 first_cells-second-requires : tie.Need-first_cells-second-requires
-first_cells-second-requires c κs = (area-most c.before, let e = two c in omega arith)
+first_cells-second-requires c κs = (area_most c.before, let e = two c in omega arith)
 
 first_cells-middle-requires : tie.Need-first_cells-middle-requires
-first_cells-middle-requires c κs = (area-most c.before.before.before.before.before.before.before.before.before, let e = one c in omega arith)
+first_cells-middle-requires c κs = (area_most c.before.before.before.before.before.before.before.before.before, let e = one c in omega arith)
 
-half-cells : (a : ℕ) {s r : ℕ} → s ≡ 2 → r ≡ a * s / 64 → r ≡ a / 32
-half-cells a e f = f ∙ ap (λ (i : ℕ). a * i / 64) e ∙ omega arith
+half_cells : (a : ℕ) {s r : ℕ} → s ≡ 2 → r ≡ a * s / 64 → r ≡ a / 32
+half_cells a e f = f ∙ ap (λ (i : ℕ). a * i / 64) e ∙ omega arith
 
-quarter-cells : (a : ℕ) {s r : ℕ} → s ≡ 1 → r ≡ a * s / 64 → r ≡ a / 64
-quarter-cells a e f = f ∙ ap (λ (i : ℕ). a * i / 64) e ∙ omega arith
+quarter_cells : (a : ℕ) {s r : ℕ} → s ≡ 1 → r ≡ a * s / 64 → r ≡ a / 64
+quarter_cells a e f = f ∙ ap (λ (i : ℕ). a * i / 64) e ∙ omega arith
 
 -- the row after half of its cells, and after a quarter
 half : (s : tie.After-starts-half) → let a = s.args in Shows a.marks.now a.row a.at ((node_in a.row).w * (node_in a.row).h / 32) s.starts-half.result
@@ -43,7 +43,7 @@ half s =
     let h = n.before.before in
     let b = h.before.before in
     let area = area_is b.args.row h.width.ensures.0 h.height.ensures.0 in
-    let count = half-cells (h.width.result * h.height.result) (two n.before) n.first_cells-second.ensures in
+    let count = half_cells (h.width.result * h.height.result) (two n.before) n.first_cells-second.ensures in
     rw (← area, ← count) (shows b.before-base.ensures area (omega arith) w.wrapping_add_u32.ensures s.starts-half.ensures)
 
 quarter : (q : tie.After-starts-quarter) → let a = q.args in Shows a.marks.now a.row a.at ((node_in a.row).w * (node_in a.row).h / 64) q.starts-quarter.result
@@ -52,7 +52,7 @@ quarter q =
     let h = n.before.before.before.before.before.before.before.before.before.before in
     let b = h.before.before in
     let area = area_is b.args.row h.width.ensures.0 h.height.ensures.0 in
-    let count = quarter-cells (h.width.result * h.height.result) (one n.before) n.first_cells-middle.ensures in
+    let count = quarter_cells (h.width.result * h.height.result) (one n.before) n.first_cells-middle.ensures in
     rw (← area, ← count) (shows b.before-base.ensures area (omega arith) q.wrapping_add_u32-2.ensures q.starts-quarter.ensures)
 
 returns-then-half-left : tie.Need-returns-then-half-left

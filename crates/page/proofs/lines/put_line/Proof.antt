@@ -14,45 +14,45 @@ use Rattle.page.proofs.lines.put_line.Tie as tie
 abbrev from_first : tie.After-put_six → tie.Start
 from_first p = p.before.before.before.before
 
-abbrev from-x : tie.After-put_six-2 → tie.Start
-from-x p = from_first p.before.before.before.before.before.before
+abbrev from_x : tie.After-put_six-2 → tie.Start
+from_x p = from_first p.before.before.before.before.before.before
 
-abbrev from-y : tie.After-put_six-3 → tie.Start
-from-y p = from-x p.before.before.before.before.before.before
+abbrev from_y : tie.After-put_six-3 → tie.Start
+from_y p = from_x p.before.before.before.before.before.before
 
-abbrev from-width : tie.After-put_side → tie.Start
-from-width p = from-y p.before.before.before.before.before
+abbrev from_width : tie.After-put_side → tie.Start
+from_width p = from_y p.before.before.before.before.before
 
-abbrev from-height : tie.After-put_side-2 → tie.Start
-from-height p = from-width p.before.before.before.before.before
+abbrev from_height : tie.After-put_side-2 → tie.Start
+from_height p = from_width p.before.before.before.before.before
 
-abbrev from-qt : tie.After-put_depth → tie.Start
-from-qt p = from-height p.before.before.before.before.before
+abbrev from_qt : tie.After-put_depth → tie.Start
+from_qt p = from_height p.before.before.before.before.before
 
-abbrev from-mtt : tie.After-put_depth-2 → tie.Start
-from-mtt p = from-qt p.before.before.before.before.before
+abbrev from_mtt : tie.After-put_depth-2 → tie.Start
+from_mtt p = from_qt p.before.before.before.before.before
 
 -- no call changes the length of the page
-long-first : (p : tie.After-put_six) → length p.put_six.new.page ≡ length (from_first p).args.page.now
-long-first p = p.put_six.auto.page
+long_first : (p : tie.After-put_six) → length p.put_six.new.page ≡ length (from_first p).args.page.now
+long_first p = p.put_six.auto.page
 
-long-x : (p : tie.After-put_six-2) → length p.put_six-2.new.page ≡ length (from-x p).args.page.now
-long-x p = p.put_six-2.auto.page ∙ long-first p.before.before.before.before.before.before
+long_x : (p : tie.After-put_six-2) → length p.put_six-2.new.page ≡ length (from_x p).args.page.now
+long_x p = p.put_six-2.auto.page ∙ long_first p.before.before.before.before.before.before
 
-long-y : (p : tie.After-put_six-3) → length p.put_six-3.new.page ≡ length (from-y p).args.page.now
-long-y p = p.put_six-3.auto.page ∙ long-x p.before.before.before.before.before.before
+long_y : (p : tie.After-put_six-3) → length p.put_six-3.new.page ≡ length (from_y p).args.page.now
+long_y p = p.put_six-3.auto.page ∙ long_x p.before.before.before.before.before.before
 
-long-width : (p : tie.After-put_side) → length p.put_side.new.page ≡ length (from-width p).args.page.now
-long-width p = p.put_side.auto.page ∙ long-y p.before.before.before.before.before
+long_width : (p : tie.After-put_side) → length p.put_side.new.page ≡ length (from_width p).args.page.now
+long_width p = p.put_side.auto.page ∙ long_y p.before.before.before.before.before
 
-long-height : (p : tie.After-put_side-2) → length p.put_side-2.new.page ≡ length (from-height p).args.page.now
-long-height p = p.put_side-2.auto.page ∙ long-width p.before.before.before.before.before
+long_height : (p : tie.After-put_side-2) → length p.put_side-2.new.page ≡ length (from_height p).args.page.now
+long_height p = p.put_side-2.auto.page ∙ long_width p.before.before.before.before.before
 
-long-qt : (p : tie.After-put_depth) → length p.put_depth.new.page ≡ length (from-qt p).args.page.now
-long-qt p = p.put_depth.auto.page ∙ long-height p.before.before.before.before.before
+long_qt : (p : tie.After-put_depth) → length p.put_depth.new.page ≡ length (from_qt p).args.page.now
+long_qt p = p.put_depth.auto.page ∙ long_height p.before.before.before.before.before
 
-long-mtt : (p : tie.After-put_depth-2) → length p.put_depth-2.new.page ≡ length (from-mtt p).args.page.now
-long-mtt p = p.put_depth-2.auto.page ∙ long-qt p.before.before.before.before.before
+long_mtt : (p : tie.After-put_depth-2) → length p.put_depth-2.new.page ≡ length (from_mtt p).args.page.now
+long_mtt p = p.put_depth-2.auto.page ∙ long_qt p.before.before.before.before.before
 
 put_six-requires : tie.Need-put_six-requires
 put_six-requires c κs = search rules
@@ -95,7 +95,7 @@ bounds-rows-i c = search rules
 
 put_side-requires : tie.Need-put_side-requires
 unfolding row_at
-put_side-requires c κs = let s = from-y c.before.before.before.before in let p = s.requires in let v = s.requires.2.least_w in let w = s.requires.2.most_w in (omega arith, omega arith, omega arith)
+put_side-requires c κs = let s = from_y c.before.before.before.before in let p = s.requires in let v = s.requires.2.least_w in let w = s.requires.2.most_w in (omega arith, omega arith, omega arith)
 
 overflow_add-at-4 : tie.Need-overflow_add-at-4
 overflow_add-at-4 c = search rules
@@ -108,13 +108,13 @@ bounds-rows-i-2 c = search rules
 
 put_side-requires-2 : tie.Need-put_side-requires-2
 unfolding row_at
-put_side-requires-2 c κs = let s = from-width c.before.before.before.before in let p = s.requires in let g = s.requires.2.least_h in let h = s.requires.2.most_h in (omega arith, omega arith, omega arith)
+put_side-requires-2 c κs = let s = from_width c.before.before.before.before in let p = s.requires in let g = s.requires.2.least_h in let h = s.requires.2.most_h in (omega arith, omega arith, omega arith)
 
 overflow_add-at-5 : tie.Need-overflow_add-at-5
 overflow_add-at-5 c = search rules
 
 overflow_add-i-4 : tie.Need-overflow_add-i-4
-overflow_add-i-4 c = let s = from-height c.before.before.before in omega arith
+overflow_add-i-4 c = let s = from_height c.before.before.before in omega arith
 
 bounds-rows-i-3 : tie.Need-bounds-rows-i-3
 bounds-rows-i-3 c = search rules
@@ -123,25 +123,25 @@ put_depth-requires : tie.Need-put_depth-requires
 put_depth-requires c κs = search rules
 
 overflow_add-at-6 : tie.Need-overflow_add-at-6
-overflow_add-at-6 c = let s = from-qt c.before.before.before in omega arith
+overflow_add-at-6 c = let s = from_qt c.before.before.before in omega arith
 
 overflow_add-i-5 : tie.Need-overflow_add-i-5
-overflow_add-i-5 c = let s = from-qt c.before.before.before in omega arith
+overflow_add-i-5 c = let s = from_qt c.before.before.before in omega arith
 
 bounds-rows-i-4 : tie.Need-bounds-rows-i-4
-bounds-rows-i-4 c = let s = from-qt c.before.before.before.before in omega arith
+bounds-rows-i-4 c = let s = from_qt c.before.before.before.before in omega arith
 
 put_depth-requires-2 : tie.Need-put_depth-requires-2
-put_depth-requires-2 c κs = let s = from-qt c.before.before.before.before in let l = long-qt c.before.before.before.before in omega arith
+put_depth-requires-2 c κs = let s = from_qt c.before.before.before.before in let l = long_qt c.before.before.before.before in omega arith
 
 overflow_add-page : tie.Need-overflow_add-page
-overflow_add-page c = let s = from-mtt c.before.before in omega arith
+overflow_add-page c = let s = from_mtt c.before.before in omega arith
 
 bounds-page-at : tie.Need-bounds-page-at
-bounds-page-at c = let s = from-mtt c.before.before in let l = long-mtt c.before.before in omega arith
+bounds-page-at c = let s = from_mtt c.before.before in let l = long_mtt c.before.before in omega arith
 
 shape_of-page : tie.Need-shape_of-page
-shape_of-page c = simp length-set (long-mtt c.before.before)
+shape_of-page c = simp length-set (long_mtt c.before.before)
 
 returns : tie.Need-returns
 unfolding row_at

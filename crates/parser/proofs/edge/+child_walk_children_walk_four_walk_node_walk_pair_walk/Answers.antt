@@ -16,7 +16,7 @@ use Rattle.walks.proofs.Lists.{none_walked}
 use Rattle.walks.proofs.Progress.{same_word, same_asked, same_walked, Progress, begun, last, ended, next_child, refused, walked}
 use Rattle.walks.proofs.Split.{Split, outer_split, kids_asked, walked_kids}
 use Rattle.parser.specs.Walking.{read_way}
-use Rattle.parser.proofs.Way.{read_lawful, none-stored}
+use Rattle.parser.proofs.Way.{read_lawful, none_stored}
 use Rattle.parser.proofs.Seen.{moves, walked_refused, turned}
 use Rattle.parser.proofs.Decided.{out_splits_lem, out_sees}
 use Rattle.parser.proofs.edge.+child_walk_children_walk_four_walk_node_walk_pair_walk.Goals as goal
@@ -25,7 +25,7 @@ use Rattle.parser.proofs.edge.+child_walk_children_walk_four_walk_node_walk_pair
 -- ---- child_walk
 
 pub child_walk-returns-then-not-begins_inside : goal.child_walk-returns-then-not-begins_inside
-child_walk-returns-then-not-begins_inside t c = edge_gone (read_way c.args.flags.now) none-stored (tested_not c.begins_inside.ensures c.if-not-begins_inside.true-raw)
+child_walk-returns-then-not-begins_inside t c = edge_gone (read_way c.args.flags.now) none_stored (tested_not c.begins_inside.ensures c.if-not-begins_inside.true-raw)
 
 pub child_walk-node_walk-requires : goal.child_walk-node_walk-requires
 child_walk-node_walk-requires t c =
@@ -61,7 +61,7 @@ children_walk-pair_walk-requires t c =
 pub children_walk-returns-in-Leaf : goal.children_walk-returns-in-Leaf
 children_walk-returns-in-Leaf t c =
     let a = c.args in
-    same_walked _ _ (out_none a.u.now a.row a.depths c.in-Leaf.is) (none_walked _ _ a.u.now a.c a.rows.now none-stored)
+    same_walked _ _ (out_none a.u.now a.row a.depths c.in-Leaf.is) (none_walked _ _ a.u.now a.c a.rows.now none_stored)
 
 pub children_walk-returns-in-Quad : goal.children_walk-returns-in-Quad
 children_walk-returns-in-Quad t c =
@@ -76,7 +76,7 @@ children_walk-returns-in-Binary t c =
 pub children_walk-returns-in-Ternary : goal.children_walk-returns-in-Ternary
 children_walk-returns-in-Ternary t c =
     let a = c.args in
-    same_walked _ _ (out_three a.u.now a.row a.depths c.in-Ternary.is) (none_walked _ _ a.u.now a.c a.rows.now none-stored)
+    same_walked _ _ (out_three a.u.now a.row a.depths c.in-Ternary.is) (none_walked _ _ a.u.now a.c a.rows.now none_stored)
 
 -- ---- the children of a split, one after the other: so many are walked
 abbrev so_far : (flags u rows : List ℕ) (c : ℕ) (all : List Word) → ℕ → ℕ → List Word → List ℕ → Type 0
@@ -185,4 +185,4 @@ node_walk-returns-in-Refused t c =
     walked_refused c.args.flags.now (out_sees c.requires.1 c.requires.2 found) c.refusal.ensures
 
 pub node_walk-returns-in-Chosen : goal.node_walk-returns-in-Chosen
-node_walk-returns-in-Chosen t c = walked_kids (node_split t (goal.at.node_walk-returns-in-Chosen t c).After-moved_to-c1) none-stored (read_lawful _) c.children_walk.ensures
+node_walk-returns-in-Chosen t c = walked_kids (node_split t (goal.at.node_walk-returns-in-Chosen t c).After-moved_to-c1) none_stored (read_lawful _) c.children_walk.ensures

@@ -16,7 +16,7 @@ use Rattle.walks.proofs.Lists.{none_walked}
 use Rattle.walks.proofs.Progress.{same_open, same_word, same_asked, same_walked, Progress, begun, last, ended, next_child, refused, walked}
 use Rattle.walks.proofs.Split.{Split, inner_split, kids_asked, walked_kids}
 use Rattle.parser.specs.Walking.{read_way}
-use Rattle.parser.proofs.Way.{read_lawful, none-stored}
+use Rattle.parser.proofs.Way.{read_lawful, none_stored}
 use Rattle.parser.proofs.Seen.{row_fits, moves, moves_one, walked_refused, walked_leaf, turned}
 use Rattle.parser.proofs.Decided.{shut_sees, open_sees, zero_sees, end_sees, first_splits}
 use Rattle.parser.proofs.inside.+child_walk_children_walk_four_walk_node_walk_three_walk_two_walk.Goals as goal
@@ -60,7 +60,7 @@ pub children_walk-returns-in-Leaf : goal.children_walk-returns-in-Leaf
 unfolding inner_kids
 children_walk-returns-in-Leaf t c =
     let a = c.args in
-    same_walked _ _ (ap (inner_kids a.u.now a.row a.bound) (sym c.in-Leaf.is)) (none_walked _ _ a.u.now a.c a.rows.now none-stored)
+    same_walked _ _ (ap (inner_kids a.u.now a.row a.bound) (sym c.in-Leaf.is)) (none_walked _ _ a.u.now a.c a.rows.now none_stored)
 
 -- ---- the children of a split, one after the other: so many are walked
 abbrev so_far : (flags u rows : List ℕ) (c row bound : ℕ) (d : Decision) → ℕ → ℕ → List Word → List ℕ → Type 0
@@ -255,4 +255,4 @@ node_walk-returns-in-Refused t c =
     walked_refused c.args.flags.now (open_sees c.requires.1 (found_at c.args.flags.now c.args.splits c.args.c c.place-at.ensures.0 c.decide_inside.ensures c.in-Refused.is)) c.refusal-in-Refused.ensures
 
 pub node_walk-returns-in-Chosen : goal.node_walk-returns-in-Chosen
-node_walk-returns-in-Chosen t c = walked_kids (node_split t (goal.at.node_walk-returns-in-Chosen t c).After-moved_to-c1) none-stored (read_lawful _) c.children_walk.ensures
+node_walk-returns-in-Chosen t c = walked_kids (node_split t (goal.at.node_walk-returns-in-Chosen t c).After-moved_to-c1) none_stored (read_lawful _) c.children_walk.ensures

@@ -8,16 +8,16 @@ use Rattle.settings.proofs.Grid.{gridded, count_most}
 use Rattle.unit.specs.Luma.{units_of}
 use Rattle.picture.specs.State.{call}
 use Rattle.picture.specs.Session.{returned}
-use Rattle.picture.proofs.Calls.{not-accepted, found_due, state_refused, unit_read}
+use Rattle.picture.proofs.Calls.{not_accepted, found_due, state_refused, unit_read}
 use Rattle.picture.proofs.Session.unit.Statement.{statement}
 use Rattle.picture.proofs.Session.unit.Tie as tie
 
 returned-requires : tie.Need-returned-requires
-returned-requires c κs = not-accepted _ _ _
+returned-requires c κs = not_accepted _ _ _
 
 -- a due address is small
-due-small : (c : tie.In-Due) → c.args.self.due < 1048576
-due-small c =
+due_small : (c : tie.In-Due) → c.args.self.due < 1048576
+due_small c =
     let a = c.args in
     let d = found_due (units_of a.self.settings) a.self.due (call a.address a.flags.now a.rows.now) c.unit_count.ensures c.state_at.ensures c.in-Due.is in
     let m = count_most (gridded (passed a.self.settings d.passed)) in
@@ -25,7 +25,7 @@ due-small c =
     omega arith
 
 returned-requires-in-Due : tie.Need-returned-requires-in-Due
-returned-requires-in-Due c κs = λ count e. due-small c.before.before.before.before
+returned-requires-in-Due c κs = λ count e. due_small c.before.before.before.before
 
 returns-in-Refused : tie.Need-returns-in-Refused
 returns-in-Refused c =

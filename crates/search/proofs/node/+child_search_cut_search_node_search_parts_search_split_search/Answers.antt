@@ -5,7 +5,7 @@ use Rattle.walks.proofs.AtEdge.{out_splits_is, edge_gone}
 use Rattle.search.specs.Walking.{search_way}
 use Rattle.search.proofs.Nodes.{known_asked, known_walked, out_known, in_known, tried_first, tried_second, tried_farther}
 use Rattle.search.proofs.PartWords.{four_parts}
-use Rattle.search.proofs.Steps.{Ahead, row_ahead, child-ended, child_elsewhere, Level, node_quad, node_cut, node_leaf, node_other}
+use Rattle.search.proofs.Steps.{Ahead, row_ahead, child_ended, child_elsewhere, Level, node_quad, node_cut, node_leaf, node_other}
 use Rattle.search.proofs.Splits.{split_shut, parts_asked, split_tried, parts_ended, Part, part_asked, part_refused, rest_asked, rest_walked}
 use Rattle.search.proofs.node.+child_search_cut_search_node_search_parts_search_split_search.Goals as goal
 use Rattle.search.proofs.node.+child_search_cut_search_node_search_parts_search_split_search.Goals.{node_search-After-word_at-next, parts_search-After-left_to-left}
@@ -16,7 +16,7 @@ pub child_search-returns-then-not-begins_inside : goal.child_search-returns-then
 child_search-returns-then-not-begins_inside t c = edge_gone (search_way c.args.rows.now) refl (sym c.begins_inside.ensures ∙ c.if-not-begins_inside.true)
 
 pub child_search-returns-then-rows-at : goal.child_search-returns-then-rows-at
-child_search-returns-then-rows-at t c = child-ended (sym c.begins_inside.ensures ∙ c.if-not-begins_inside.false) c.place-at.ensures.0 c.refusal.ensures c.if-rows-at.true
+child_search-returns-then-rows-at t c = child_ended (sym c.begins_inside.ensures ∙ c.if-not-begins_inside.false) c.place-at.ensures.0 c.refusal.ensures c.if-rows-at.true
 
 pub child_search-returns-then-word_at-row : goal.child_search-returns-then-word_at-row
 child_search-returns-then-word_at-row t c =
@@ -62,40 +62,40 @@ child_search-returns t c =
 -- ---- a node
 
 -- the next row
-node-ahead : (t : ℕ) (w : node_search-After-word_at-next t) → Ahead w.args.rows.now w.args.c w.word_at-next.result
-node-ahead t w =
+node_ahead : (t : ℕ) (w : node_search-After-word_at-next t) → Ahead w.args.rows.now w.args.c w.word_at-next.result
+node_ahead t w =
     let e = w.place-at.ensures.0 in
     let h = w.requires.2 in
     row_ahead w.requires.0 w.requires.1 e (omega arith) w.word_at-next.ensures
 
 -- its depths, and the node's
-node-level : {row next a b x y : ℕ} → a ≡ row / 281474976710656 % 256 → b ≡ next / 281474976710656 % 256 → b ≤ a → x ≡ next / 72057594037927936 % 256 → y ≡ row / 72057594037927936 % 256 → Level row next x y
-node-level e f h x y = record { flat = omega arith; x_is = x; y_is = y }
+node_level : {row next a b x y : ℕ} → a ≡ row / 281474976710656 % 256 → b ≡ next / 281474976710656 % 256 → b ≤ a → x ≡ next / 72057594037927936 % 256 → y ≡ row / 72057594037927936 % 256 → Level row next x y
+node_level e f h x y = record { flat = omega arith; x_is = x; y_is = y }
 
 pub node_search-split_search-requires : goal.node_search-split_search-requires
 node_search-split_search-requires t c = let m = c.decreases in (omega arith, (c.requires.0, c.requires.1, refl))
 
 pub node_search-returns-then-qt_depth : goal.node_search-returns-then-qt_depth
 node_search-returns-then-qt_depth t c =
-    node_quad (node-ahead t (goal.at.node_search-returns-then-qt_depth t c).After-word_at-next) c.qt_depth.ensures.0 c.qt_depth-2.ensures.0 c.if-qt_depth.true c.split_search.ensures
+    node_quad (node_ahead t (goal.at.node_search-returns-then-qt_depth t c).After-word_at-next) c.qt_depth.ensures.0 c.qt_depth-2.ensures.0 c.if-qt_depth.true c.split_search.ensures
 
 pub node_search-cut_search-requires : goal.node_search-cut_search-requires
 node_search-cut_search-requires t c = let m = c.decreases in (omega arith, (c.requires.0, c.requires.1))
 
 pub node_search-returns-then-mtt_depth : goal.node_search-returns-then-mtt_depth
 node_search-returns-then-mtt_depth t c =
-    node_cut (node-ahead t (goal.at.node_search-returns-then-mtt_depth t c).After-word_at-next)
-    (node-level c.qt_depth.ensures.0 c.qt_depth-2.ensures.0 c.if-qt_depth.false c.mtt_depth.ensures.0 c.mtt_depth-2.ensures.0) c.if-mtt_depth.true c.cut_search.ensures
+    node_cut (node_ahead t (goal.at.node_search-returns-then-mtt_depth t c).After-word_at-next)
+    (node_level c.qt_depth.ensures.0 c.qt_depth-2.ensures.0 c.if-qt_depth.false c.mtt_depth.ensures.0 c.mtt_depth-2.ensures.0) c.if-mtt_depth.true c.cut_search.ensures
 
 pub node_search-returns-then-next-row : goal.node_search-returns-then-next-row
 node_search-returns-then-next-row t c =
-    node_leaf (node-ahead t (goal.at.node_search-returns-then-next-row t c).After-word_at-next)
-    (node-level c.qt_depth.ensures.0 c.qt_depth-2.ensures.0 c.if-qt_depth.false c.mtt_depth.ensures.0 c.mtt_depth-2.ensures.0) c.if-mtt_depth.false c.if-next-row.true c.further.ensures
+    node_leaf (node_ahead t (goal.at.node_search-returns-then-next-row t c).After-word_at-next)
+    (node_level c.qt_depth.ensures.0 c.qt_depth-2.ensures.0 c.if-qt_depth.false c.mtt_depth.ensures.0 c.mtt_depth-2.ensures.0) c.if-mtt_depth.false c.if-next-row.true c.further.ensures
 
 pub node_search-returns-else-next-row : goal.node_search-returns-else-next-row
 node_search-returns-else-next-row t c =
-    node_other (node-ahead t (goal.at.node_search-returns-else-next-row t c).After-word_at-next)
-    (node-level c.qt_depth.ensures.0 c.qt_depth-2.ensures.0 c.if-qt_depth.false c.mtt_depth.ensures.0 c.mtt_depth-2.ensures.0) c.if-mtt_depth.false c.if-next-row.false c.place-at.ensures.0 c.refusal.ensures
+    node_other (node_ahead t (goal.at.node_search-returns-else-next-row t c).After-word_at-next)
+    (node_level c.qt_depth.ensures.0 c.qt_depth-2.ensures.0 c.if-qt_depth.false c.mtt_depth.ensures.0 c.mtt_depth-2.ensures.0) c.if-mtt_depth.false c.if-next-row.false c.place-at.ensures.0 c.refusal.ensures
 
 -- ---- the cuts of a node, one after the other
 
@@ -165,15 +165,15 @@ parts_search-returns-then-parts-i t c =
     parts_ended a.u.now a.row a.depths a.out a.d a.i (omega arith)
 
 -- the numbers of the next part
-parts-part : (t : ℕ) (l : parts_search-After-left_to-left t) → let a = l.args in Part a.u.now a.row a.depths a.out a.d a.i l.child_row-part.result l.left_to-left.result
-parts-part t l =
+parts_part : (t : ℕ) (l : parts_search-After-left_to-left t) → let a = l.args in Part a.u.now a.row a.depths a.out a.d a.i l.child_row-part.result l.left_to-left.result
+parts_part t l =
     let e = l.parts.ensures.0 in
     let h = l.if-parts-i.false in
     record { more = omega arith; part_is = l.child_row-part.ensures; left_is = l.left_to-left.ensures }
 
 pub parts_search-child_search-first-requires : goal.parts_search-child_search-first-requires
 parts_search-child_search-first-requires t c =
-    let p = parts-part t c in
+    let p = parts_part t c in
     let m = c.decreases in
     let less = c.requires.2.each c.args.i p.more in
     let same = ap (λ (x : ℕ). area_in x) p.part_is in
@@ -181,15 +181,15 @@ parts_search-child_search-first-requires t c =
 
 pub parts_search-returns-in_default : goal.parts_search-returns-in_default
 parts_search-returns-in_default t c =
-    part_refused (parts-part t (goal.at.parts_search-returns-in_default t c).After-left_to-left) c.requires.0 c.child_search-first.ensures (was_refused _ c.child_answer.ensures c.in_default.is)
+    part_refused (parts_part t (goal.at.parts_search-returns-in_default t c).After-left_to-left) c.requires.0 c.child_search-first.ensures (was_refused _ c.child_answer.ensures c.in_default.is)
 
 pub parts_search-parts_search-requires : goal.parts_search-parts_search-requires
 parts_search-parts_search-requires t c =
-    let p = parts-part t (goal.at.parts_search-parts_search-requires t c).After-left_to-left in
+    let p = parts_part t (goal.at.parts_search-parts_search-requires t c).After-left_to-left in
     let m = c.decreases in
     let h = p.more in
     (omega arith, (rest_asked p c.requires.0 c.child_search-first.ensures (was_walked _ c.child_answer.ensures c.in-Walked.is), c.requires.1, c.requires.2))
 
 pub parts_search-returns : goal.parts_search-returns
 parts_search-returns t c =
-    rest_walked (parts-part t (goal.at.parts_search-returns t c).After-left_to-left) c.requires.0 c.child_search-first.ensures (was_walked _ c.child_answer.ensures c.in-Walked.is) c.parts_search.ensures
+    rest_walked (parts_part t (goal.at.parts_search-returns t c).After-left_to-left) c.requires.0 c.child_search-first.ensures (was_walked _ c.child_answer.ensures c.in-Walked.is) c.parts_search.ensures

@@ -22,10 +22,10 @@ limit_refusal-limit-requires : tie.Need-limit_refusal-limit-requires
 limit_refusal-limit-requires c κs = search rules
 
 -- where 1 to 3 pass, the later rules decide
-past-sides : (c : tie.Else-side-ne0) {r : ℕ} → let s = c.before.before.args.s in
+past_sides : (c : tie.Else-side-ne0) {r : ℕ} → let s = c.before.before.args.s in
     r ≡ first_hit 4 (limit_rules s ++ picture_rules s) → r ≡ settings_refusal s
 unfolding settings_refusal
-past-sides c =
+past_sides c =
     let s = c.before.before.args.s in
     in_second 1 (side_rules s) (limit_rules s ++ picture_rules s) (omega arith) c.before.side_refusal-side.ensures c.if-side-ne0.false
 
@@ -33,7 +33,7 @@ returns-then-limit-ne0 : tie.Need-returns-then-limit-ne0
 returns-then-limit-ne0 c =
     let a = c.before.before in
     let s = a.before.before.args.s in
-    past-sides a (in_first 4 (limit_rules s) (picture_rules s) c.before.limit_refusal-limit.ensures c.if-limit-ne0.true)
+    past_sides a (in_first 4 (limit_rules s) (picture_rules s) c.before.limit_refusal-limit.ensures c.if-limit-ne0.true)
 
 picture_refusal-requires : tie.Need-picture_refusal-requires
 picture_refusal-requires c κs = search rules
@@ -43,7 +43,7 @@ returns c =
     let b = c.before in
     let a = b.before.before in
     let s = a.before.before.args.s in
-    past-sides a
+    past_sides a
     (in_second 4 (limit_rules s) (picture_rules s) (omega arith) b.before.limit_refusal-limit.ensures b.if-limit-ne0.false c.picture_refusal.ensures)
 
 pub refusal_spec : {M : Type 1} → statement M

@@ -2,7 +2,7 @@ use mathlib.Core.Path.{◌≡◌}
 use borrow.Author.Rules.{rules}
 use borrow.Author.Tests.{lt-ltb, le-ltb}
 use Rattle.settings.specs.Units.{unit_count, square_at, refusal_at, located_by}
-use Rattle.unit.proofs.Located.{settings-refused, settings_passed}
+use Rattle.unit.proofs.Located.{settings_refused, settings_passed}
 use Rattle.walks.proofs.UnitRoots.{found_rooted}
 use Rattle.writer.proofs.test.is_quad_leaf.Statement.{statement}
 use Rattle.writer.proofs.test.is_quad_leaf.Tie as tie
@@ -10,7 +10,7 @@ use Rattle.writer.proofs.test.is_quad_leaf.Tie as tie
 returns-then-refusal-ne0 : tie.Need-returns-then-refusal-ne0
 returns-then-refusal-ne0 c =
     let a = c.args in
-    rw (← settings-refused c.if-refusal-ne0.true (unit_count a.s) a.address (square_at a.s a.address))
+    rw (← settings_refused c.if-refusal-ne0.true (unit_count a.s) a.address (square_at a.s a.address))
 
 locate-requires : tie.Need-locate-requires
 locate-requires c κs = c.requires.grid c.if-refusal-ne0.false
