@@ -5,8 +5,8 @@ use mathlib.Core.Bool.{Bool, true, false, ◌&&◌, cond}
 use mathlib.Core.List.{List}
 use Rattle.sides.proofs.Bools.{clash}
 use Rattle.tree.specs.declared.Direction.TheVariants.{Horizontal, Vertical}
-use Rattle.tree.specs.declared.Flag.{Flag}
-use Rattle.tree.specs.declared.Flag.TheVariants.{Value, Bad}
+use Rattle.tree.specs.Flags.{Flag}
+use Rattle.tree.specs.Flags.{Value, Bad}
 use Rattle.tree.specs.Splits.{Rights, has, rights_in}
 use Rattle.tree.specs.Flags.{some_open, flag_at, quad_flag, cut_at, after_binary, after_vertical, after_quad, after_split, decide}
 use Rattle.flags.specs.Out.{after_quad_out, decide_out}

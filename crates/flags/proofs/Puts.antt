@@ -174,9 +174,9 @@ module _ (splits : ℕ) where
 -- ---- the flags of a node that the code has stored
 
 module _ (splits : ℕ) {b : List ℕ} {n : ℕ} (room : n < length b) where
-  pub stored_quad : has splits 1 ≡ true → {flat steep : Bool} → flat ≡ (has splits 2 || has splits 8) → steep ≡ (has splits 4 || has splits 16) → {after : List ℕ} {m : ℕ}
-      → Follows (set b n 1) (n + 1) (flag_byte (flat || steep) true) after m → Follows b n (flags_for (rights_in false splits) Quad) after m
-  stored_quad ok f s p = rw (quad_flags splits ok, ← f, ← s) (put_two (put_one b n 1 room) p)
+  pub stored_quad : has splits 1 ≡ true → {cut : Bool} → cut ≡ ((has splits 2 || has splits 8) || (has splits 4 || has splits 16)) → {after : List ℕ} {m : ℕ}
+      → Follows (set b n 1) (n + 1) (flag_byte cut true) after m → Follows b n (flags_for (rights_in false splits) Quad) after m
+  stored_quad ok e p = rw (quad_flags splits ok, ← e) (put_two (put_one b n 1 room) p)
 
   pub stored_binary : (d : Direction) → has splits (binary_mask d) ≡ true → {other : ℕ} → other ≡ ternary_mask d → {after : List ℕ} {m : ℕ}
       → Follows (set b n 1) (n + 1) (cut_rest splits d other true) after m → Follows b n (flags_for (rights_in false splits) (Binary d)) after m

@@ -3,10 +3,10 @@ use Rattle.std.specs.Prelude.{ℕ, true, false, not, cond, List}
 use Rattle.tree.specs.declared.Direction.{Direction}
 use Rattle.tree.specs.declared.Direction.TheVariants.{Horizontal, Vertical}
 use Rattle.tree.specs.declared.Decision.TheVariants.{Quad, Binary}
-use Rattle.tree.specs.declared.Flag.{Flag}
-use Rattle.tree.specs.declared.Flag.TheVariants.{Value, Bad}
-use Rattle.tree.specs.declared.Choice.{Choice}
-use Rattle.tree.specs.declared.Choice.TheVariants.{Chosen, Refused}
+use Rattle.tree.specs.Flags.{Flag}
+use Rattle.tree.specs.Flags.{Value, Bad}
+use Rattle.tree.specs.Flags.{Choice}
+use Rattle.tree.specs.Flags.{Chosen, Refused}
 use Rattle.tree.specs.Splits.{has, rights_in}
 use Rattle.tree.specs.Flags.{quad_flag}
 

@@ -13,7 +13,8 @@ use lib.Count.{ones, ones_step}
 use borrow.Author.Tests.{eq-eqb, eqb-true, ltb-true, ltb-false, le-leb, not-false}
 use Rattle.sides.specs.Side.{exponent, side_from}
 use Rattle.sides.proofs.Bools.{clash, and_left, and_right}
-use Rattle.sides.proofs.Powers.{Side, side}
+use Rattle.sides.specs.Side.{Side}
+use Rattle.sides.proofs.Powers.{side}
 use Rattle.settings.specs.declared.Settings.{Settings}
 use Rattle.settings.specs.Checks.{bad_ctu, bad_cb, bad_qt, bad_depth, bad_bt, bad_tt, bad_length, bad_edge, side_rules, limit_rules, picture_rules, first_hit, settings_refusal}
 use Rattle.settings.specs.Faults.{PowerFrom, BadLength, Breaks, bad_ctu_side, bad_mincb, bad_minqt, bad_greatest_depth, bad_maxbt, bad_maxtt, bad_width, bad_height, bad_edge_multiple, SettingsFault}

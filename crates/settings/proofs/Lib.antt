@@ -4,3 +4,4 @@ pub mod Passed
 pub mod Grid
 pub mod Numbers
 pub mod Faults
+pub mod Refused

@@ -10,7 +10,8 @@ use lib.Count.{count_trailing_zeros}
 use borrow.Author.Tests.{ltb-false, eqb-true, eqb-false, eq-eqb, not-false}
 use Rattle.sides.specs.Side.{exponent}
 use Rattle.sides.proofs.Bools.{and_left, and_right, or_none_left, or_none_right}
-use Rattle.sides.proofs.Powers.{Side, side}
+use Rattle.sides.specs.Side.{Side}
+use Rattle.sides.proofs.Powers.{side}
 use Rattle.settings.specs.declared.Settings.{Settings}
 use Rattle.settings.specs.Checks.{settings_refusal, side_rules, limit_rules, picture_rules, first_hit, bad_ctu, bad_cb, bad_qt, bad_length, bad_edge}
 use Rattle.settings.proofs.First.{kept}

@@ -1,12 +1,8 @@
 -- The units of a picture: how many there are, and the square of each; by a unit's side and the picture's sides, and for H.266's settings.
-use Rattle.std.specs.Prelude.{ℕ, ◌+◌, ◌-◌, ◌*◌, ◌/◌, ◌%◌, ◌^◌, ◌≤◌, ◌<◌, ◌≡◌, cond, leb, eqb}
+use Rattle.std.specs.Prelude.{ℕ, ◌+◌, ◌-◌, ◌*◌, ◌/◌, ◌%◌, ◌^◌, ◌≤◌, ◌<◌, ◌≡◌, cond, leb, eqb, Result, Ok, Err}
 use Rattle.sides.specs.Side.{exponent}
 use Rattle.settings.specs.declared.Settings.{Settings}
 use Rattle.settings.specs.declared.Square.{Square}
-use Rattle.settings.specs.declared.Count.{Count}
-use Rattle.settings.specs.declared.Count.TheVariants as count
-use Rattle.settings.specs.declared.Located.{Located}
-use Rattle.settings.specs.declared.Located.TheVariants as unit
 use Rattle.settings.specs.Checks.{settings_refusal}
 
 -- "a unit at the right or bottom edge counts as one": the units that reach over n samples
@@ -37,21 +33,27 @@ pub record Gridded (side width height : ℕ) : Type 0 where
 unfoldable pub refusal_at : (refusal count address : ℕ) → ℕ
 refusal_at refusal count address = cond (eqb refusal 0) (cond (leb count address) 10 0) refusal
 
--- a number of units, and a unit's square, or the refusal of the settings or of the address
+-- a number of units, and a unit's square, or the number of the refusal of the settings or of the address
+abbrev pub Count : Type 0
+Count = Result ℕ ℕ
+
+abbrev pub Located : Type 0
+Located = Result Square ℕ
+
 unfoldable pub counted_by : (refusal count : ℕ) → Count
-counted_by refusal units = cond (eqb refusal 0) (count.Units units) (count.Refused refusal)
+counted_by refusal units = cond (eqb refusal 0) (Ok units) (Err refusal)
 
 unfoldable pub located_by : ℕ → Square → Located
-located_by refusal square = cond (eqb refusal 0) (unit.At square) (unit.Refused refusal)
+located_by refusal square = cond (eqb refusal 0) (Ok square) (Err refusal)
 
 -- document 01's number of each answer: that of a refusal, else 0
 abbrev pub count_number : Count → ℕ
-count_number (count.Units n) = 0
-count_number (count.Refused number) = number
+count_number (Ok units) = 0
+count_number (Err number) = number
 
 abbrev pub located_number : Located → ℕ
-located_number (unit.At square) = 0
-located_number (unit.Refused number) = number
+located_number (Ok square) = 0
+located_number (Err number) = number
 
 -- ---- H.266's settings
 
@@ -65,7 +67,7 @@ square_at s address = square_in s.ctu s.width address
 abbrev pub unit_refusal : Settings → ℕ → ℕ
 unit_refusal s address = refusal_at (settings_refusal s) (unit_count s) address
 
--- what `unit_count` and `unit_at` answer
+-- what `unit::unit_count`, for these settings, and `unit_at` answer
 abbrev pub count_of : Settings → Count
 count_of s = counted_by (settings_refusal s) (unit_count s)
 

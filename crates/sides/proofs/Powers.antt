@@ -8,7 +8,7 @@ use lib.Bits.{bit_and, and_mask}
 use borrow.Author.Tests.{leb-true, eqb-true}
 use native.Mathlib.Omega.{arith}
 use native.Mathlib.Nat.{pow-suc}
-use Rattle.sides.specs.Side.{exponent, side_from}
+use Rattle.sides.specs.Side.{exponent, side_from, Side}
 use Rattle.sides.proofs.Bools.{and_left, and_right}
 
 -- no digit set: zero
@@ -41,11 +41,6 @@ pub power : (n : ℕ) → n < 2 ^ 32 → ones n ≡ 1 → n ≡ 2 ^ exponent n
 power n l h = one_digit 32 n l h
 
 -- ---- a side in a range
-
-pub record Side (low high n : ℕ) : Type 0 where
-  pub is : n ≡ 2 ^ exponent n
-  pub least : low ≤ n
-  pub most : n ≤ high
 
 pub side : (low high n : ℕ) → high < 2 ^ 32 → side_from low high n ≡ true → Side low high n
 side low high n l h =

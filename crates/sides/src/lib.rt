@@ -1,7 +1,7 @@
 // Sides of blocks: powers of two, and the exponents that rows store.
 #![tactic(auto)]
 
-ghost use Rattle.std.specs.Prelude.{◌≡◌, min};
+ghost use Rattle.std.specs.Prelude.{◌≡◌};
 ghost use Rattle.sides.specs.Side.{exponent as Side·exponent, side_from};
 
 // The exponent of a side: its trailing zeros; 32 of 0.
@@ -16,11 +16,4 @@ pub fn side_from(low: u32, high: u32, x: u32) -> bool
     ensures { result ≡ side_from low high x }
 {
     (u32::count_ones(x) == 1) & (low <= x) & (x <= high)
-}
-
-// The smaller of two sides.
-pub fn least(a: u32, b: u32) -> u32
-    ensures { result ≡ min a b }
-{
-    if a < b { a } else { b }
 }

@@ -1,14 +1,12 @@
 -- The flags of a node: which are present, what an absent one is, the decision that they give, and the flags that say a decision.
 -- H.266 clause 7.3.11.4: split_cu_flag, split_qt_flag, mtt_split_cu_vertical_flag and mtt_split_cu_binary_flag, here split, quad, vertical, binary.
-use Rattle.std.specs.Prelude.{ℕ, ◌+◌, Bool, true, false, not, ◌&&◌, ◌||◌, cond, List, [], ◌∷◌, ◌++◌, length, get_or, leb, ltb, eqb}
+use Rattle.std.specs.Prelude.{ℕ, ◌+◌, Bool, true, false, not, ◌&&◌, ◌||◌, cond, List, [], ◌∷◌, ◌++◌, length, get_or, leb, ltb, eqb, Result, Ok, Err}
 use Rattle.tree.specs.declared.Direction.{Direction}
 use Rattle.tree.specs.declared.Direction.TheVariants.{Horizontal, Vertical}
 use Rattle.tree.specs.declared.Decision.{Decision}
 use Rattle.tree.specs.declared.Decision.TheVariants.{Leaf, Quad, Binary, Ternary}
-use Rattle.tree.specs.declared.Flag.{Flag}
-use Rattle.tree.specs.declared.Flag.TheVariants.{Value, Bad}
-use Rattle.tree.specs.declared.Choice.{Choice}
-use Rattle.tree.specs.declared.Choice.TheVariants.{Chosen, Refused}
+use Rattle.refusals.specs.declared.Refusal.{Refusal}
+use Rattle.refusals.specs.Numbers.{number}
 use Rattle.tree.specs.Splits.{pick, bit, Rights}
 
 -- ---- presence
@@ -52,6 +50,24 @@ abbrev pub binary_absent : Rights → Direction → Bool
 binary_absent r d = r.binary d
 
 -- ---- reading: the decision at a place of the flags, and the next place; or refusal 11 or 12, whichever comes first
+
+-- What reading one flag finds: its value and the next place, or a refusal's number and place; what a node's flags decide and the next place, or these.
+pub data Flag : Type 0 where
+  Value : Bool → ℕ → Flag
+  Bad : ℕ → ℕ → Flag
+
+pub data Choice : Type 0 where
+  Chosen : Decision → ℕ → Choice
+  Refused : ℕ → ℕ → Choice
+
+-- those that results of the code say
+abbrev pub flag_said : Result (Bool × ℕ) Refusal → Flag
+flag_said (Ok (v, at)) = Value v at
+flag_said (Err refusal) = Bad (number refusal.reason) refusal.place
+
+abbrev pub choice_said : Result (Decision × ℕ) Refusal → Choice
+choice_said (Ok (d, at)) = Chosen d at
+choice_said (Err refusal) = Refused (number refusal.reason) refusal.place
 
 -- A present flag is the byte at the place: 11 past the end (its place the number of bytes), 12 where the byte is above 1 (its place the byte's).
 -- An absent flag has its inferred value.

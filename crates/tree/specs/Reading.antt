@@ -1,8 +1,8 @@
 -- The reading of a node: the rows that flags give.
 use Rattle.std.specs.Prelude.{ℕ, zero, suc, ◌+◌, ◌-◌, List}
 use Rattle.tree.specs.declared.Node.{Node}
-use Rattle.tree.specs.declared.Choice.{Choice}
-use Rattle.tree.specs.declared.Choice.TheVariants.{Chosen, Refused}
+use Rattle.tree.specs.Flags.{Choice}
+use Rattle.tree.specs.Flags.{Chosen, Refused}
 use Rattle.tree.specs.Kind.{Kind}
 use Rattle.tree.specs.Splits.{rights_of}
 use Rattle.tree.specs.Flags.{decide}

@@ -3,6 +3,10 @@
 // This layer knows the limits of one tree and no unit: luma is one kind of tree.
 #![tactic(auto)]
 
+ghost use Rattle.std.specs.Prelude.{◌≡◌, cond};
+ghost use Rattle.tree.specs.declared.Direction.TheVariants.{Horizontal, Vertical};
+ghost use Rattle.tree.specs.Splits as Splits;
+
 // The limits of one tree: MinCb, MinQt, M (`maxmtt`), MaxBt, MaxTt, and the picture's width and height.
 #[derive(Clone, Copy)]
 pub struct Limits {
@@ -16,14 +20,37 @@ pub struct Limits {
 }
 
 // The direction of a cut: a horizontal one divides the height, a vertical one the width.
-#[derive(Clone, Copy)]
+#[derive(Clone, Copy, Debug, PartialEq, Eq)]
 pub enum Direction {
     Horizontal,
     Vertical,
 }
 
+impl Direction {
+    // The direction of a cut that is vertical or not.
+    pub fn vertical_if(vertical: bool) -> Direction
+        ensures { result ≡ cond vertical Vertical Horizontal }
+    {
+        if vertical {
+            Direction::Vertical
+        } else {
+            Direction::Horizontal
+        }
+    }
+
+    // One of two values by direction.
+    pub fn pick<T: Copy>(self, horizontal: T, vertical: T) -> T
+        ensures { result ≡ Splits.pick self horizontal vertical }
+    {
+        match self {
+            Direction::Horizontal => horizontal,
+            Direction::Vertical => vertical,
+        }
+    }
+}
+
 // "A node ends as a leaf, a quad, a binary or a ternary split with its direction."
-#[derive(Clone, Copy)]
+#[derive(Clone, Copy, Debug, PartialEq, Eq)]
 pub enum Decision {
     Leaf,
     Quad,
@@ -43,20 +70,6 @@ pub struct Node {
     pub offset: u32,
     pub part: u32,
     pub parent: Decision,
-}
-
-// What reading one flag finds: its value and the next place, or a refusal's number and place.
-#[derive(Clone, Copy)]
-pub enum Flag {
-    Value(bool, usize),
-    Bad(u32, usize),
-}
-
-// What a node's flags decide and the next place, or a refusal's number and place.
-#[derive(Clone, Copy)]
-pub enum Choice {
-    Chosen(Decision, usize),
-    Refused(u32, usize),
 }
 
 // A part of a split in quarters of its parent: where it starts, how long it is, and its number.
@@ -79,6 +92,7 @@ pub struct Part {
 }
 
 // The masks of the five splits in the number of a node's open splits; H names a horizontal cut, V a vertical one.
+// Stays: a set of splits is a number of masks, as H.266's rules are computed here and as the walks carry it in a register.
 pub const QT: u32 = 1;
 
 pub const BH: u32 = 2;
