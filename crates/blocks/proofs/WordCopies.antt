@@ -1,11 +1,13 @@
 -- A copy of numbers as their bytes, one number a turn.
-use Prim.Native.Nat.{ℕ, suc, ◌+◌, ◌*◌, ◌≤◌, ◌<◌}
+use Prim.Native.Nat.{ℕ, suc, ◌+◌, ◌-◌, ◌*◌, ◌≤◌, ◌<◌}
 use mathlib.Core.Path.{◌≡◌, refl, sym, ap, ap₂, ◌∙◌}
 use mathlib.Core.List.{List, [], ◌∷◌, ◌++◌, append_assoc, append-nil}
 use native.Mathlib.Omega.{arith}
 use lib.ListN.{length, take, drop, get_or, length-append, length-drop}
+use borrow.Rule.Slice.PartMut.{put_mid}
 use lib.Seq.{sets, sets-eq, take_at, drop_at, drop-drop, take-suc, length-take-le}
 use Rattle.blocks.specs.RowNumbers.{word_bytes, words_bytes}
+use Rattle.blocks.proofs.Pastes.{part_stored}
 
 word-length : (w : ℕ) → length (word_bytes w) ≡ 8
 unfolding word_bytes
@@ -71,3 +73,7 @@ copy_step d ws r i e some room = ap (λ (x : List ℕ). sets x (i * 8) (word_byt
 pub copy_none : (d ws : List ℕ) → d ≡ fronted d ws 0
 unfolding words_bytes
 copy_none d ws = refl
+
+-- the store of one number at a place
+pub word_stored : (b : List ℕ) (at w : ℕ) → at + 8 ≤ length b → {bytes : List ℕ} → bytes ≡ word_bytes w → put_mid at (at + 8 - at) b bytes ≡ sets b at (word_bytes w)
+word_stored b at w = part_stored b (word_bytes w) at 8 (sym (word-length w))

@@ -1,4 +1,6 @@
 // The parts of a split: one constant table of their shares, and a part's place in its parent.
+#![tactic(auto, using(crate::proofs::Shares::no_part, crate::proofs::Shares::either_way), unfolding(crate::specs::Table::share_table, crate::specs::Table::share_at, tree::specs::Children::shares))]
+
 ghost use Rattle.std.specs.Prelude.{◌≡◌, ◌*◌, ◌/◌, ◌≤◌, get_or};
 ghost use Rattle.tree.specs.Splits as Splits;
 ghost use Rattle.tree.specs.Children as Children;
@@ -7,7 +9,8 @@ ghost use Rattle.blocks.specs.Table.{share_table, share_at};
 
 use tree::{Decision, Direction, Part, Share};
 
-// The shares of the parts of QT (one way), BH, BV, TH and TV, in quarters of the parent.
+// The shares of the parts of QT (one way), BH, BV, TH and TV, in quarters of the parent. They are bytes: where a direction
+// chooses between two entries, the compiled code then has two constants, and of u32 it loads the entry from memory.
 const SHARES: [u8; 15] = [2, 2, 0, 2, 2, 0, 2, 2, 0, 1, 2, 1, 1, 2, 1];
 
 // The places of its first parts: the first of the two parts of BH and of BV, and the first of the three parts of TH and
@@ -24,17 +27,11 @@ pub const MIDDLE_H: usize = 10;
 
 pub const MIDDLE_V: usize = 13;
 
-fn wide(x: u8) -> u32
-    ensures { result ≡ x }
-{
-    x as u32
-}
-
 // An entry of the table; 0 past its end.
 fn share(i: usize) -> u32
     ensures { result ≡ get_or share_table i 0 }
 {
-    if i < 15 { wide(SHARES[i]) } else { 0 }
+    if i < 15 { u32::from(SHARES[i]) } else { 0 }
 }
 
 // A share from its five numbers.
@@ -77,6 +74,7 @@ pub fn share_of(d: Direction, horizontal: usize, vertical: usize) -> u32
     }
 }
 
+// Stays: one function for the three kinds of split would take the places in the table and the number of parts as arguments, which is no plainer.
 fn quad_share(i: u32) -> Share
     ensures { result ≡ share_at Decision.Quad i }
 {

@@ -30,16 +30,16 @@ pub const ROW_MTT: u64 = 1 << 56;
 fn stored_exponent(side: u32) -> u64
     ensures { (result ≡ exponent side % 256) × (result < 256) }
 {
-    sides::exponent(side) as u64
+    u64::from(sides::exponent(side))
 }
 
 // The row of a node as one number: X and Y of 16 bits, the sides' exponents and the two depths of 8 bits each.
 pub fn row_word(n: Node) -> u64
     ensures { result ≡ row_word (row_of n) }
 {
-    let corner = (n.x % 65536) as u64 + (n.y % 65536) as u64 * ROW_Y;
+    let corner = u64::from(n.x % 65536) + u64::from(n.y % 65536) * ROW_Y;
     let exponents = stored_exponent(n.w) + stored_exponent(n.h) * 256;
-    let depths = (n.qt % 256) as u64 + (n.mtt % 256) as u64 * 256;
+    let depths = u64::from(n.qt % 256) + u64::from(n.mtt % 256) * 256;
     corner + exponents * ROW_WIDTH + depths * ROW_QT
 }
 
@@ -48,14 +48,7 @@ pub(crate) fn store_word(rows: &mut [u8], at: usize, word: u64)
     requires { at + 8 ≤ length rows.old }
     ensures { rows.new ≡ sets rows.old at (word_bytes word) }
 {
-    rows[at] = (word % 256) as u8;
-    rows[at + 1] = (word / 256 % 256) as u8;
-    rows[at + 2] = (word / 65536 % 256) as u8;
-    rows[at + 3] = (word / 16777216 % 256) as u8;
-    rows[at + 4] = (word / 4294967296 % 256) as u8;
-    rows[at + 5] = (word / 1099511627776 % 256) as u8;
-    rows[at + 6] = (word / 281474976710656 % 256) as u8;
-    rows[at + 7] = (word / 72057594037927936 % 256) as u8;
+    rows[at..at + 8].copy_from_slice(&word.to_le_bytes());
 }
 
 // Writes a row at a place of a buffer and answers true; where the buffer has no 8 bytes there, it stays as it is
@@ -63,10 +56,7 @@ pub(crate) fn store_word(rows: &mut [u8], at: usize, word: u64)
 pub fn put_row(rows: &mut [u8], at: usize, word: u64) -> bool
     ensures { Put rows.old at word result rows.new }
 {
-    if rows.len() < 8 {
-        return false;
-    }
-    if rows.len() - 8 < at {
+    if rows.len().saturating_sub(at) < 8 {
         return false;
     }
     store_word(rows, at, word);

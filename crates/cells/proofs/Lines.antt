@@ -1,31 +1,24 @@
--- Cells filled one after the other, and lines of them: what is left to fill, by what is filled already.
+-- A line of cells, and several lines: what is left to fill, by what is filled already.
 use Prim.Native.Nat.{ℕ, suc, ◌+◌, ◌-◌, ◌*◌, ◌/◌, ◌≤◌, ◌<◌}
-use mathlib.Core.Path.{◌≡◌}
+use mathlib.Core.Path.{◌≡◌, sym, ◌∙◌}
 use mathlib.Core.List.{List}
 use native.Mathlib.Omega.{arith}
-use lib.ListN.{set, replicate}
-use lib.Seq.{sets}
+use borrow.Rule.Slice.PartMut.{mid_of, put_mid}
+use lib.ListN.{length, drop, replicate, length-drop, length-replicate}
+use lib.Seq.{sets, length-take-le}
+use Rattle.blocks.proofs.Pastes.{part_stored}
 use Rattle.tree.specs.declared.Node.{Node}
 use Rattle.cells.specs.Map.{cell_at, put_lines, Inside}
 
 -- ---- one line
 
-module _ (at wide row : ℕ) where
-  -- the line, from its cell number k on
-  abbrev pub line_from : ℕ → List ℕ → List ℕ
-  line_from k map = sets map (at + k) (replicate (wide - k) row)
-
-  pub line_first : (map : List ℕ) → line_from 0 map ≡ sets map at (replicate wide row)
-  line_first map = let e : at + 0 ≡ at = omega arith in let f : wide - 0 ≡ wide = omega arith in rw (e, f)
-
-  pub line_next : (map : List ℕ) (k : ℕ) → k < wide → line_from (k + 1) (set map (at + k) row) ≡ line_from k map
-  line_next map k h =
-      let e : wide - k ≡ suc (wide - (k + 1)) = omega arith in
-      let f : at + (k + 1) ≡ suc (at + k) = omega arith in
-      rw (e, f)
-
-  pub line_last : (map : List ℕ) (k : ℕ) → k ≡ wide → line_from k map ≡ map
-  line_last map k e = let f : wide - k ≡ 0 = omega arith in rw f
+-- cells filled as a slice
+pub line_filled : (map : List ℕ) (at wide row : ℕ) → at + wide ≤ length map → {line : List ℕ} → line ≡ replicate (length (mid_of at (at + wide - at) map)) row
+    → put_mid at (at + wide - at) map line ≡ sets map at (replicate wide row)
+line_filled map at wide row room e =
+    let k : at + wide - at ≡ wide = omega arith in
+    let n : length (mid_of at wide map) ≡ wide = length-take-le wide (drop at map) (rw (length-drop at map) (omega arith)) in
+    part_stored map (replicate wide row) at wide (sym (length-replicate wide row)) room (e ∙ rw (k, n))
 
 -- ---- several lines
 
@@ -33,9 +26,6 @@ module _ (at wide high row : ℕ) where
   -- the lines, from line number k on
   abbrev pub lines_from : ℕ → List ℕ → List ℕ
   lines_from k map = put_lines (high - k) wide row (at + k * 32) map
-
-  pub lines_first : (map : List ℕ) → lines_from 0 map ≡ put_lines high wide row at map
-  lines_first map = let e : at + 0 * 32 ≡ at = omega arith in let f : high - 0 ≡ high = omega arith in rw (e, f)
 
   pub lines_next : (map : List ℕ) (k : ℕ) → k < high → lines_from (k + 1) (sets map (at + k * 32) (replicate wide row)) ≡ lines_from k map
   unfolding put_lines

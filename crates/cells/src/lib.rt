@@ -7,10 +7,12 @@ ghost use Rattle.std.proofs.lemmas.List.Edits.{sets};
 ghost use Rattle.nodes.specs.RowNodes.{node_in};
 ghost use Rattle.cells.specs.Map.{cell_at, Inside, filled};
 
+// Stays: an array of fixed size, since the library allocates nothing.
 pub type Map = [u64; 1024];
 
 // The cell of a row's corner. A unit lies at multiples of its side, which is 128 at most, so that no two of its cells
 // have one number.
+#[tactic(auto, unfolding(nodes::specs::RowNodes::node_in))]
 fn corner_cell(row: u64) -> usize
     ensures { (result ≡ cell_at (node_in row).x (node_in row).y) × (result < 1024) }
 {
@@ -26,14 +28,10 @@ pub fn at_corner(map: &Map, row: u64) -> u64
 
 // So many cells of one line.
 fn fill_line(map: &mut Map, at: usize, wide: usize, row: u64)
-    requires { (length map.old ≡ 1024) × (at + wide ≤ 1024) }
+    requires { at + wide ≤ 1024 }
     ensures { map.new ≡ sets map.old at (replicate wide row) }
 {
-    let mut k = 0;
-    while k < wide {
-        map[at + k] = row;
-        k += 1;
-    }
+    map[at..at + wide].fill(row);
 }
 
 // The cells of a row, line by line.
@@ -44,9 +42,7 @@ pub fn fill(map: &mut Map, row: u64)
     let wide = (nodes::width(row) / 4) as usize;
     let high = (nodes::height(row) / 4) as usize;
     let corner = corner_cell(row);
-    let mut k = 0;
-    while k < high {
+    for k in 0..high {
         fill_line(map, corner + k * 32, wide, row);
-        k += 1;
     }
 }

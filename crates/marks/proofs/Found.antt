@@ -1,17 +1,16 @@
 -- The cut that the marks of a table show is the one that its rows show.
-use Rattle.std.proofs.Common.{◌≡◌, ℕ, ◌+◌, ◌*◌, ◌/◌, ◌%◌, ◌^◌, ◌<◌, ◌≤◌, Bool, true, false, cond, eqb, ltb, List, length, get_or, take, sym, refl, ap, ◌∙◌, subst, arith, le-ltb, lt-ltb, eq-eqb, ne_eqb}
+use Rattle.std.proofs.Common.{◌≡◌, ℕ, ◌+◌, ◌*◌, ◌/◌, ◌%◌, ◌^◌, ◌<◌, ◌≤◌, Bool, true, eqb, List, length, get_or, take, sym, refl, ap, ◌∙◌, subst, mul-le-mul_left, arith, le-ltb, lt-ltb, eq-eqb, ne_eqb}
 use Rattle.sides.proofs.Bools.{clash}
-use Rattle.tree.specs.declared.Direction.{Direction}
 use Rattle.tree.specs.declared.Direction.TheVariants.{Horizontal, Vertical}
 use Rattle.tree.specs.declared.Decision.{Decision}
 use Rattle.tree.specs.declared.Decision.TheVariants.{Leaf, Quad, Binary, Ternary}
 use Rattle.tree.specs.Splits.{is_split}
 use Rattle.tree.specs.Rows.{Row, rows_in}
-use Rattle.tree.specs.Back.{starts_after, at_left, at_top, cut_from}
+use Rattle.tree.specs.Back.{starts_after, cut_from}
 use Rattle.laws.proofs.Starts.{starts_past}
 use Rattle.nodes.specs.RowNodes.{node_in}
 use Rattle.marks.specs.Table.{rows_left, Eight}
-use Rattle.marks.specs.Marks.{corner_after, cells_before, Marked, Begins, is_cut, Cut, Divided}
+use Rattle.marks.specs.Marks.{corner_after, cells_before, Marked, Begins, Shows, is_cut, Cut, Divided}
 use Rattle.marks.proofs.Corners.{SmallTo, starts_left, starts_top}
 use Rattle.marks.proofs.NextRows.{rows_apart, rows_cells}
 
@@ -37,24 +36,6 @@ module _ {bytes marks : List ℕ} (m : Marked bytes marks) (i count : ℕ) (with
 
 -- ---- the cut, by what the code has looked up
 
--- what a mark shows of the row after so many cells from a place on
-pub record Shows (marks : List ℕ) (row at count got : ℕ) : Type 0 where
-  pub left : {bytes : List ℕ} → Marked bytes marks → Begins bytes row at → starts_after count (at_left (node_in row)) (rows_left bytes (at / 8)) ≡ eqb (got % 65536) (node_in row).x
-  pub top : {bytes : List ℕ} → Marked bytes marks → Begins bytes row at → starts_after count (at_top (node_in row)) (rows_left bytes (at / 8)) ≡ eqb (got / 65536) (node_in row).y
-
-module _ (row : ℕ) where
-  pub area_is : {w h : ℕ} → w ≡ 2 ^ (row / 4294967296 % 8) → h ≡ 2 ^ (row / 1099511627776 % 8) → w * h ≡ (node_in row).w * (node_in row).h
-  unfolding node_in
-  area_is e f = rw (e, f)
-
-  pub left_is : {x : ℕ} → x ≡ row % 65536 → x ≡ (node_in row).x
-  unfolding node_in
-  left_is e = e
-
-  pub top_is : {y : ℕ} → y ≡ row / 65536 % 65536 → y ≡ (node_in row).y
-  unfolding node_in
-  top_is e = e
-
 module _ {marks : List ℕ} {row at base area : ℕ} (b : base ≡ get_or marks (at / 8 % 1024) 0) (a : area ≡ (node_in row).w * (node_in row).h) where
   module _ {bytes : List ℕ} (m : Marked bytes marks) (g : Begins bytes row at) where
     base_is : base ≡ cells_before bytes (at / 8)
@@ -74,30 +55,41 @@ module _ {marks : List ℕ} {row at base area : ℕ} (b : base ≡ get_or marks 
         let e : sum % 1024 ≡ cells_before bytes (at / 8) + count = omega arith in
         (less, f ∙ ap (λ c. get_or marks (1024 + c) 0) e)
 
-  pub shows : {count : ℕ} → count ≤ area / 32 → {sum got : ℕ} → sum ≡ (base + count) % 2 ^ 32 → got ≡ get_or marks (1024 + sum % 1024) 0 → Shows marks row at count got
+  shows : {count : ℕ} → count ≤ area / 32 → {sum got : ℕ} → sum ≡ (base + count) % 2 ^ 32 → got ≡ get_or marks (1024 + sum % 1024) 0 → Shows marks row at count got
   shows {count} h s f = record {
     left = λ m g. let l = looked m g count h s f in left_shown m (at / 8) count l.0 l.1 (node_in row).x g.left;
     top = λ m g. let l = looked m g count h s f in top_shown m (at / 8) count l.0 l.1 (node_in row).y g.top;
   }
 
-module _ {marks : List ℕ} {row at half : ℕ} (s : Shows marks row at ((node_in row).w * (node_in row).h / 32) half) where
+-- the row after a part of the node's cells
+pub part_shown : {marks : List ℕ} {row at base area share : ℕ} → base ≡ get_or marks (at / 8 % 1024) 0 → area ≡ (node_in row).w * (node_in row).h → share ≤ 2
+    → {sum got : ℕ} → sum ≡ (base + area * share / 64) % 2 ^ 32 → got ≡ get_or marks (1024 + sum % 1024) 0 → Shows marks row at ((node_in row).w * (node_in row).h * share / 64) got
+part_shown {area} {share} b a s e f = let m = mul-le-mul_left area s in rw (← a) (shows b a (omega arith) e f)
+
+module _ {marks : List ℕ} {row at half two : ℕ} (s : Shows marks row at ((node_in row).w * (node_in row).h * two / 64) half) (e : two ≡ 2) where
+  of_half : Shows marks row at ((node_in row).w * (node_in row).h / 32) half
+  of_half = let f : (node_in row).w * (node_in row).h / 32 ≡ (node_in row).w * (node_in row).h * two / 64 = rw e (omega arith) in rw f s
+
   pub cut_flat : half % 65536 ≡ (node_in row).x → Cut marks row at (Binary Horizontal)
   unfolding cut_from
-  cut_flat h = record { cut = refl; found = λ bytes m g. rw (s.left m g, eq-eqb _ _ h) }
+  cut_flat h = record { cut = refl; found = λ bytes m g. rw (of_half.left m g, eq-eqb _ _ h) }
 
-  module _ (no-left : ¬ (half % 65536 ≡ (node_in row).x)) where
+  module _ (no_left : ¬ (half % 65536 ≡ (node_in row).x)) where
     pub cut_steep : half / 65536 ≡ (node_in row).y → Cut marks row at (Binary Vertical)
     unfolding cut_from
-    cut_steep h = record { cut = refl; found = λ bytes m g. rw (s.left m g, ne_eqb _ _ no-left, s.top m g, eq-eqb _ _ h) }
+    cut_steep h = record { cut = refl; found = λ bytes m g. rw (of_half.left m g, ne_eqb _ _ no_left, of_half.top m g, eq-eqb _ _ h) }
 
-    pub cut_in_three : ¬ (half / 65536 ≡ (node_in row).y) → {quarter : ℕ} → Shows marks row at ((node_in row).w * (node_in row).h / 64) quarter → {b : Bool} → eqb (quarter % 65536) (node_in row).x ≡ b
-        → Cut marks row at (cond b (Ternary Horizontal) (Ternary Vertical))
-    unfolding cut_from
-    cut_in_three no_top q {b} h = record { cut = some b; found = λ bytes m g. rw (s.left m g, ne_eqb _ _ no-left, s.top m g, ne_eqb _ _ no_top, q.left m g, h) }
-      where
-        some : (b : Bool) → is_cut (cond b (Ternary Horizontal) (Ternary Vertical)) ≡ true
-        some true = refl
-        some false = refl
+    module _ (no_top : ¬ (half / 65536 ≡ (node_in row).y)) {quarter one : ℕ} (q : Shows marks row at ((node_in row).w * (node_in row).h * one / 64) quarter) (f : one ≡ 1) where
+      of_quarter : Shows marks row at ((node_in row).w * (node_in row).h / 64) quarter
+      of_quarter = let g : (node_in row).w * (node_in row).h / 64 ≡ (node_in row).w * (node_in row).h * one / 64 = rw f (omega arith) in rw g q
+
+      pub cut_across : quarter % 65536 ≡ (node_in row).x → Cut marks row at (Ternary Horizontal)
+      unfolding cut_from
+      cut_across h = record { cut = refl; found = λ bytes m g. rw (of_half.left m g, ne_eqb _ _ no_left, of_half.top m g, ne_eqb _ _ no_top, of_quarter.left m g, eq-eqb _ _ h) }
+
+      pub cut_down : ¬ (quarter % 65536 ≡ (node_in row).x) → Cut marks row at (Ternary Vertical)
+      unfolding cut_from
+      cut_down h = record { cut = refl; found = λ bytes m g. rw (of_half.left m g, ne_eqb _ _ no_left, of_half.top m g, ne_eqb _ _ no_top, of_quarter.left m g, ne_eqb _ _ h) }
 
 -- ---- the decision, by the QT depths
 
@@ -113,11 +105,3 @@ module _ {marks : List ℕ} {row next at : ℕ} where
 
   pub divided_cut : {d : Decision} → (node_in next).qt ≤ (node_in row).qt → Cut marks row at d → Divided marks row next at d
   divided_cut {d} h c = record { split = cut_splits d c.cut; deeper = λ e. clash e (le-ltb _ _ h); flat = λ e. c.cut; found = λ bytes m g. rw (le-ltb _ _ h) (c.found bytes m g) }
-
-pub out_quad : (row next : ℕ) (bottom : Bool) → (node_in row).qt < (node_in next).qt → Quad ≡ cond (ltb (node_in row).qt (node_in next).qt) Quad (cond bottom (Binary Horizontal) (Binary Vertical))
-out_quad row next bottom h = rw (lt-ltb _ _ h)
-
-pub out_cut : (row next : ℕ) (bottom : Bool) {d : Direction} → (node_in next).qt ≤ (node_in row).qt → d ≡ cond bottom Horizontal Vertical
-    → Binary d ≡ cond (ltb (node_in row).qt (node_in next).qt) Quad (cond bottom (Binary Horizontal) (Binary Vertical))
-out_cut row next true h e = rw (le-ltb _ _ h, e)
-out_cut row next false h e = rw (le-ltb _ _ h, e)

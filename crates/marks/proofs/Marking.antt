@@ -1,8 +1,7 @@
 -- The pass that makes the marks, row by row.
-use Rattle.std.proofs.Common.{◌≡◌, ℕ, ◌+◌, ◌-◌, ◌*◌, ◌/◌, ◌%◌, ◌^◌, ◌<◌, ◌≤◌, true, false, ◌&&◌, ltb, List, ◌∷◌, ◌++◌, length, get_or, take, set, replicate, sym, ap, ◌∙◌, subst, arith, length-set, get_or-set_other, get_or-set_same, pow_pos, pow_mono, ltb-false, ltb-true, lt-ltb}
+use Rattle.std.proofs.Common.{◌≡◌, ℕ, ◌+◌, ◌-◌, ◌*◌, ◌/◌, ◌%◌, ◌^◌, ◌<◌, ◌≤◌, List, ◌∷◌, ◌++◌, length, get_or, take, set, replicate, sym, ap, ◌∙◌, arith, length-set, get_or-set_other, get_or-set_same}
 use native.Mathlib.Decide.{dec_le, dec_lt}
 use lib.ListN.{length-replicate, get_or-replicate}
-use Rattle.sides.proofs.Bools.{and_left, and_right}
 use Rattle.tree.specs.Rows.{row_at, rows_in}
 use Rattle.tree.specs.Back.{cells_of}
 use Rattle.marks.specs.Table.{rows_left, word_at, Eight}
@@ -131,36 +130,20 @@ module _ {bytes marks : List ℕ} {i : ℕ} (m : MarkedTo bytes marks i) where
 
 -- ---- what the code has found of a row
 
--- 1 shifted by less than 16
-pub shifted : (e : ℕ) → e < 16 → (1 * 2 ^ e % 18446744073709551616 ≡ 2 ^ e) × (0 < 1 * 2 ^ e % 18446744073709551616) × (1 * 2 ^ e % 18446744073709551616 ≤ 32768)
-shifted e h = let p = pow_pos e in let m : 2 ^ e ≤ 2 ^ 15 = pow_mono {j = 15} (omega arith) in (omega arith, omega arith, omega arith)
-
--- the test of the loop
-pub both_fewer : (at long covered : ℕ) → (ltb at long && ltb covered 1024) ≡ true → (at < long) × (covered < 1024)
-both_fewer at long covered e = (ltb-true at long (and_left (ltb at long) (ltb covered 1024) e), ltb-true covered 1024 (and_right (ltb at long) (ltb covered 1024) e))
-
--- what holds of a place, the cells so far and the marks
+-- what holds of the number of a row, the cells so far and the marks
 abbrev pub Passed : List ℕ → ℕ → ℕ → List ℕ → Type 0
-Passed bytes at covered marks = (at % 8 ≡ 0) × (at ≤ length bytes) × (covered ≡ cells_before bytes (at / 8)) × MarkedTo bytes marks (at / 8)
+Passed bytes i covered marks = (covered ≡ cells_before bytes i) × MarkedTo bytes marks i
 
-pub row_passed : (bytes : List ℕ) {marks : List ℕ} {at covered row cells : ℕ} → Passed bytes at covered marks → at + 8 ≤ length bytes → covered < 1024
-    → (row ≡ word_at bytes at) × Eight bytes at → (cells ≡ 2 ^ ((row / 4294967296 + row / 1099511627776 + 12) % 16)) × (0 < cells) × (cells ≤ 32768)
-    → Passed bytes (at + 8) (covered + cells) (set (set marks (at / 8) covered) (1024 + covered) (row % 4294967296))
-row_passed bytes {marks} {at} {covered} {row} {cells} p there fewer w n =
-    let whole = p.0 in
-    let place : at / 8 * 8 ≡ at = omega arith in
-    let next : (at + 8) / 8 ≡ at / 8 + 1 = omega arith in
-    let eight : Eight bytes (at / 8 * 8) = subst (λ (x : ℕ). Eight bytes x) (sym place) w.1 in
-    let word : row ≡ word_at bytes (at / 8 * 8) = w.0 ∙ ap (word_at bytes) (sym place) in
-    let corner : row % 4294967296 ≡ (row_at bytes (at / 8 * 8)).x + 65536 * (row_at bytes (at / 8 * 8)).y = ap (λ r. r % 4294967296) word ∙ word_corner eight in
-    let size : cells ≡ cells_of (row_at bytes (at / 8 * 8)) = n.0 ∙ ap (λ r. 2 ^ ((r / 4294967296 + r / 1099511627776 + 12) % 16)) word ∙ word_cells eight in
-    let c = p.2 in
-    let more = cells_next bytes (at / 8) (omega arith) in
-    (omega arith, there, rw next (omega arith), rw (next, c, corner) (more_marked p.3 (omega arith) (omega arith) eight))
+pub row_passed : (bytes : List ℕ) {marks : List ℕ} {i covered row cells : ℕ} → Passed bytes i covered marks → i < length bytes / 8 → covered < 1024
+    → (row ≡ word_at bytes (i * 8)) × Eight bytes (i * 8) → (cells ≡ 2 ^ ((row / 4294967296 + row / 1099511627776 + 12) % 16)) × (0 < cells) × (cells ≤ 32768)
+    → Passed bytes (i + 1) (covered + cells) (set (set marks i covered) (1024 + covered) (row % 4294967296))
+row_passed bytes {marks} {i} {covered} {row} {cells} p there fewer w n =
+    let corner : row % 4294967296 ≡ (row_at bytes (i * 8)).x + 65536 * (row_at bytes (i * 8)).y = ap (λ r. r % 4294967296) w.0 ∙ word_corner w.1 in
+    let size : cells ≡ cells_of (row_at bytes (i * 8)) = n.0 ∙ ap (λ r. 2 ^ ((r / 4294967296 + r / 1099511627776 + 12) % 16)) w.0 ∙ word_cells w.1 in
+    let c = p.0 in
+    let more = cells_next bytes i there in
+    (omega arith, rw (c, corner) (more_marked p.1 there (omega arith) w.1))
 
-pub passed_all : (bytes : List ℕ) {marks : List ℕ} {at covered : ℕ} → Passed bytes at covered marks → (ltb at (length bytes) && ltb covered 1024) ≡ false → Marked bytes marks
-passed_all bytes {marks} {at} {covered} p e = go (dec_lt at (length bytes))
-  where
-    go : Dec (at < length bytes) → Marked bytes marks
-    go (yes l) = let n = ltb-false covered 1024 (sym (ap (λ b. b && ltb covered 1024) (lt-ltb at (length bytes) l)) ∙ e) in let c = p.2 in enough_marked p.3 (omega arith)
-    go (no l) = all_marked p.3 (omega arith)
+-- a row that is passed is below the cells, so that there is a place for its mark
+pub few_rows : (bytes : List ℕ) {marks : List ℕ} {i covered : ℕ} → Passed bytes i covered marks → i ≤ length bytes / 8 → i ≤ covered
+few_rows bytes {marks} {i} p there = let r = rows_cells bytes i there in let c = p.0 in omega arith

@@ -1,5 +1,6 @@
 -- The number of a table's row: its corner, its cells, and that it is a leaf's own, or another table's row, where the numbers are equal.
-use Rattle.std.proofs.Common.{◌≡◌, ℕ, ◌+◌, ◌*◌, ◌/◌, ◌%◌, ◌^◌, ◌<◌, Bool, true, false, eqb, List, get_or, sym, refl, ap, ◌∙◌, arith, eq-eqb, eqb-true}
+use Rattle.std.proofs.Common.{◌≡◌, ℕ, ◌+◌, ◌*◌, ◌/◌, ◌%◌, ◌^◌, ◌<◌, Bool, true, false, eqb, List, [], ◌∷◌, get_or, sym, refl, ap, ◌∙◌, arith, eq-eqb, eqb-true}
+use Rattle.std.specs.Int.{w64, from_le_bytes}
 use Rattle.sides.proofs.Bools.{clash}
 use Rattle.tree.specs.declared.Node.{Node}
 use Rattle.tree.specs.Rows.{Row, row_of, row_at, row_bytes}
@@ -59,26 +60,22 @@ same_small r s a b e =
 
 -- ---- the number of eight bytes
 
--- a number that was read as the byte at a place
-abbrev ByteAt : List ℕ → ℕ → ℕ → Type 0
-ByteAt bytes i a = (a ≡ get_or bytes i 0) × (a < 256)
-
-pub sum_word : (bytes : List ℕ) (i : ℕ) {a b c d e f g h : ℕ}
-    → ByteAt bytes i a → ByteAt bytes (i + 1) b → ByteAt bytes (i + 2) c → ByteAt bytes (i + 3) d
-    → ByteAt bytes (i + 4) e → ByteAt bytes (i + 5) f → ByteAt bytes (i + 6) g → ByteAt bytes (i + 7) h
-    → (a + b * 256 + c * 65536 + d * 16777216 + e * 4294967296 + f * 1099511627776 + g * 281474976710656 + h * 72057594037927936 ≡ word_at bytes i) × Eight bytes i
+-- read from a slice of bytes
+pub sum_word : (bytes : List ℕ) (i : ℕ) → ((k : ℕ) → get_or bytes k 0 < 256) → {word : ℕ}
+    → word ≡ from_le_bytes w64 (get_or bytes i 0 ∷ get_or bytes (i + 1) 0 ∷ get_or bytes (i + 2) 0 ∷ get_or bytes (i + 3) 0 ∷ get_or bytes (i + 4) 0 ∷ get_or bytes (i + 5) 0 ∷ get_or bytes (i + 6) 0 ∷ get_or bytes (i + 7) 0 ∷ [])
+    → (word ≡ word_at bytes i) × Eight bytes i
 unfolding word_at word_of
-sum_word bytes i a b c d e f g h = (
-  rw (a.0, b.0, c.0, d.0, e.0, f.0, g.0, h.0) (omega arith),
+sum_word bytes i small e = (
+  e ∙ omega arith,
   record {
-    at_0 = rw (← a.0) a.1;
-    at_1 = rw (← b.0) b.1;
-    at_2 = rw (← c.0) c.1;
-    at_3 = rw (← d.0) d.1;
-    at_4 = rw (← e.0) e.1;
-    at_5 = rw (← f.0) f.1;
-    at_6 = rw (← g.0) g.1;
-    at_7 = rw (← h.0) h.1;
+    at_0 = small i;
+    at_1 = small (i + 1);
+    at_2 = small (i + 2);
+    at_3 = small (i + 3);
+    at_4 = small (i + 4);
+    at_5 = small (i + 5);
+    at_6 = small (i + 6);
+    at_7 = small (i + 7);
   },
 )
 

@@ -4,7 +4,7 @@ use Rattle.tree.specs.declared.Decision.{Decision}
 use Rattle.tree.specs.declared.Decision.TheVariants.{Leaf, Quad, Binary, Ternary}
 use Rattle.tree.specs.Splits.{is_split}
 use Rattle.tree.specs.Rows.{Row, rows_in}
-use Rattle.tree.specs.Back.{cells_of, cut_from}
+use Rattle.tree.specs.Back.{cells_of, starts_after, at_left, at_top, cut_from}
 use Rattle.laws.specs.Areas.{cells_of_all}
 use Rattle.nodes.specs.Tables.{limits_in}
 use Rattle.nodes.specs.RowNodes.{node_in}
@@ -36,6 +36,11 @@ pub record Begins (bytes : List ℕ) (row at : ℕ) : Type 0 where
   pub within : cells_before bytes (at / 8) + (node_in row).w * (node_in row).h / 32 < 1024
   pub left : (node_in row).x < 65535
   pub top : (node_in row).y < 65535
+
+-- what a corner `got` shows of the row after so many cells from a place on, where the marks are a table's: whether it starts at the node's left edge, and at its top
+pub record Shows (marks : List ℕ) (row at count got : ℕ) : Type 0 where
+  pub left : {bytes : List ℕ} → Marked bytes marks → Begins bytes row at → starts_after count (at_left (node_in row)) (rows_left bytes (at / 8)) ≡ (got % 65536 == (node_in row).x)
+  pub top : {bytes : List ℕ} → Marked bytes marks → Begins bytes row at → starts_after count (at_top (node_in row)) (rows_left bytes (at / 8)) ≡ (got / 65536 == (node_in row).y)
 
 abbrev pub is_cut : Decision → Bool
 is_cut Leaf = false

@@ -9,6 +9,7 @@ use nodes::Table;
 // Of the first 1,024 cells of 16 samples, which are those of a unit at most. Entry i: the cells of the rows before row
 // i. Entry 1,024 + c: the corner of the row before which c cells go by, as the low half of the row's number; all ones
 // where no row starts there.
+// Stays: one array of fixed size, since the library allocates nothing; the definition (`Marked`) is over one list.
 pub type Marks = [u32; 2048];
 
 // The cells of a row, 1 at least whatever its bytes are.
@@ -18,19 +19,21 @@ fn cells(row: u64) -> u64
     1u64 << ((row / ROW_WIDTH + row / ROW_HEIGHT + 12) % 16)
 }
 
+// Stays: that the rows are whole is asked: as a field of a struct with the rows they would lie behind a pointer (back/src/inside.rt).
 // Each row has a cell at least, so the number of rows that are passed is at most that of the cells.
 pub(crate) fn mark(rows: &[u8], marks: &mut Marks)
     requires { (length rows.now % 8 ≡ 0) × (marks.old ≡ replicate 2048 4294967295) }
     ensures { Marked rows.now marks.new }
 {
-    let mut at = 0;
-    let mut covered: u64 = 0;
-    while (at < rows.len()) & (covered < 1024) {
-        let row = word_at(rows, at);
-        marks[at / 8] = covered as u32;
+    let mut covered = 0;
+    for i in 0..rows.len() / 8 {
+        if 1024 <= covered {
+            return;
+        }
+        let row = word_at(rows, i * 8);
+        marks[i] = covered as u32;
         marks[1024 + covered as usize] = (row % ROW_WIDTH) as u32;
-        covered = covered + cells(row);
-        at += 8;
+        covered += cells(row);
     }
 }
 

@@ -33,13 +33,10 @@ pub fn bound(u: &Table, depths: u32) -> u64
     ensures { result ≡ bound_in u.now depths }
 {
     let depth = (depth_bound(u) as u64) + ((depths / OFFSET) as u64);
-    if depth < 255 {
-        depth * ROW_MTT
-    } else {
-        255 * ROW_MTT
-    }
+    u64::min(depth, 255) * ROW_MTT
 }
 
+// Stays: a set of cuts is a number of masks (tree/src/lib.rt), and that it is one is asked where masks are added.
 // The open splits of a child inside the picture: these cuts below the bound, QT or not, and of these what the masks
 // leave.
 pub fn open_below(u: &Table, row: u64, bound: u64, cuts: u32, quad: u32) -> u32
@@ -53,10 +50,7 @@ pub fn open_below(u: &Table, row: u64, bound: u64, cuts: u32, quad: u32) -> u32
 pub fn middle_cuts(v: Direction) -> u32
     ensures { (result ≡ cuts_of v 1) × (result < 32) }
 {
-    match v {
-        Direction::Horizontal => CUTS - BH,
-        Direction::Vertical => CUTS - BV,
-    }
+    CUTS - v.pick(BH, BV)
 }
 
 // What its depths leave to a child above all cuts: QT, and the cuts where M is not 0. A root is such a node too.
@@ -67,6 +61,7 @@ pub fn depth_above(u: &Table) -> u32
 }
 
 // What they leave to a part of a cut, with its offset F: these cuts where its depth is below M + F, and never QT.
+#[tactic(auto, unfolding(crate::specs::RowNodes::node_in))]
 fn depth_at(u: &Table, row: u64, offset: u32, cuts: u32) -> u32
     requires { cuts < 32 }
     ensures { result ≡ depth_at u.now row offset cuts }

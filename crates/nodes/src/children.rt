@@ -17,10 +17,10 @@ use tree::{Decision, Direction};
 fn fall(size: u32) -> u64
     ensures { (result ≡ RowNodes.fall size) × (result ≤ 2) }
 {
-    if size == 1 {
-        2
-    } else {
-        if size == 2 { 1 } else { 0 }
+    match size {
+        1 => 2,
+        2 => 1,
+        _ => 0,
     }
 }
 
@@ -30,14 +30,13 @@ fn deeper(d: Decision) -> u64
     ensures { (result ≡ RowNodes.deeper d) × (281474976710656 ≤ result) × (result ≤ 72057594037927936) }
 {
     match d {
-        Decision::Leaf => ROW_MTT,
         Decision::Quad => ROW_QT,
-        Decision::Binary(_) => ROW_MTT,
-        Decision::Ternary(_) => ROW_MTT,
+        Decision::Leaf | Decision::Binary(_) | Decision::Ternary(_) => ROW_MTT,
     }
 }
 
 // What a part adds to its parent's row: its depth and its place, less the fall of its exponents.
+#[tactic(auto, unfolding(crate::specs::RowNodes::node_in))]
 fn step_to(row: u64, d: Decision, i: u32) -> u64
     ensures { result ≡ step_to row d (share_at d i) }
 {
@@ -52,18 +51,17 @@ fn row_above(row: u64, d: Decision) -> u64
     ensures { result ≡ row_above row d }
 {
     match d {
-        Decision::Leaf => row,
         Decision::Quad => row % ROW_MTT,
-        Decision::Binary(_) => row,
-        Decision::Ternary(_) => row,
+        Decision::Leaf | Decision::Binary(_) | Decision::Ternary(_) => row,
     }
 }
 
 // The row of the child with a number.
+#[tactic(auto, unfolding(crate::specs::RowNodes::child_row))]
 pub fn child_row(row: u64, d: Decision, i: u32) -> u64
     ensures { result ≡ child_row row d i }
 {
-    std::num::wrapping_add_u64(row_above(row, d), step_to(row, d, i))
+    row_above(row, d).wrapping_add(step_to(row, d, i))
 }
 
 // The direction of a cut as data, so that no branch depends on it: where the exponent of the side that it divides
@@ -71,19 +69,13 @@ pub fn child_row(row: u64, d: Decision, i: u32) -> u64
 fn exponent_place(v: Direction) -> u32
     ensures { (result ≡ Splits.pick v 40 32) × (result ≤ 40) }
 {
-    match v {
-        Direction::Horizontal => HEIGHT_PLACE,
-        Direction::Vertical => WIDTH_PLACE,
-    }
+    v.pick(HEIGHT_PLACE, WIDTH_PLACE)
 }
 
 fn corner_place(v: Direction) -> u32
     ensures { (result ≡ Splits.pick v 16 0) × (result ≤ 16) }
 {
-    match v {
-        Direction::Horizontal => Y_PLACE,
-        Direction::Vertical => X_PLACE,
-    }
+    v.pick(Y_PLACE, X_PLACE)
 }
 
 // The side that a cut divides.
@@ -105,42 +97,47 @@ fn step_along(row: u64, v: Direction, start: u32) -> u64
 fn cut_part(row: u64, v: Direction, size: u32) -> u64
     ensures { result ≡ cut_part row v size }
 {
-    std::num::wrapping_add_u64(row, ROW_MTT - (fall(size) << exponent_place(v)))
+    row.wrapping_add(ROW_MTT - (fall(size) << exponent_place(v)))
 }
 
 // The rows of the parts of a binary split, which differ in their corners only.
+#[tactic(auto, using(crate::proofs::CutParts::half_share, crate::proofs::CutParts::first_half_is))]
 pub fn first_half(row: u64, v: Direction) -> u64
     ensures { result ≡ child_row row (Binary v) 0 }
 {
     cut_part(row, v, blocks::share_of(v, BINARY_H, BINARY_V))
 }
 
+#[tactic(auto, using(crate::proofs::CutParts::half_share, crate::proofs::CutParts::second_half_is))]
 pub fn second_half(row: u64, v: Direction) -> u64
     ensures { result ≡ child_row row (Binary v) 1 }
 {
     let start = blocks::share_of(v, BINARY_H, BINARY_V);
-    std::num::wrapping_add_u64(first_half(row, v), step_along(row, v, start))
+    first_half(row, v).wrapping_add(step_along(row, v, start))
 }
 
 // The rows of the parts of a ternary split: the first and the last differ in their corners only.
+#[tactic(auto, using(crate::proofs::CutParts::outer_share, crate::proofs::CutParts::first_third_is))]
 pub fn first_third(row: u64, v: Direction) -> u64
     ensures { result ≡ child_row row (Ternary v) 0 }
 {
     cut_part(row, v, blocks::share_of(v, TERNARY_H, TERNARY_V))
 }
 
+#[tactic(auto, using(crate::proofs::CutParts::outer_share, crate::proofs::CutParts::middle_share, crate::proofs::CutParts::middle_third_is))]
 pub fn middle_third(row: u64, v: Direction) -> u64
     ensures { result ≡ child_row row (Ternary v) 1 }
 {
     let start = blocks::share_of(v, TERNARY_H, TERNARY_V);
     let middle = cut_part(row, v, blocks::share_of(v, MIDDLE_H, MIDDLE_V));
-    std::num::wrapping_add_u64(middle, step_along(row, v, start))
+    middle.wrapping_add(step_along(row, v, start))
 }
 
+#[tactic(auto, using(crate::proofs::CutParts::outer_share, crate::proofs::CutParts::middle_share, crate::proofs::CutParts::last_third_is))]
 pub fn last_third(row: u64, v: Direction) -> u64
     ensures { result ≡ child_row row (Ternary v) 2 }
 {
     let middle = blocks::share_of(v, TERNARY_H, TERNARY_V);
     let start = middle + blocks::share_of(v, MIDDLE_H, MIDDLE_V);
-    std::num::wrapping_add_u64(first_third(row, v), step_along(row, v, start))
+    first_third(row, v).wrapping_add(step_along(row, v, start))
 }

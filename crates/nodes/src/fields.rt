@@ -3,17 +3,25 @@ ghost use Rattle.std.specs.Prelude.{◌≡◌, ◌/◌, ◌%◌, ◌^◌, ◌<�
 
 use blocks::{ROW_HEIGHT, ROW_MTT, ROW_QT, ROW_WIDTH, ROW_Y};
 
+// A field of a row: what 1 in it is in the row's number, and how many values it has.
+fn field<const ONE: u64, const VALUES: u64>(row: u64) -> u32
+    requires { (0 < ONE) × (0 < VALUES) × (VALUES ≤ 65536) }
+    ensures { (result ≡ row / ONE % VALUES) × (result < VALUES) }
+{
+    (row / ONE % VALUES) as u32
+}
+
 // The corner of a row.
 pub fn left(row: u64) -> u32
     ensures { (result ≡ row % 65536) × (result < 65536) }
 {
-    (row % 65536) as u32
+    field::<1, 65536>(row)
 }
 
 pub fn top(row: u64) -> u32
     ensures { (result ≡ row / 65536 % 65536) × (result < 65536) }
 {
-    (row / ROW_Y % 65536) as u32
+    field::<ROW_Y, 65536>(row)
 }
 
 // A side of at most 128, from its exponent.
@@ -28,26 +36,26 @@ pub(crate) fn side(e: u32) -> u32
 pub(crate) fn width_exponent(row: u64) -> u32
     ensures { (result ≡ row / 4294967296 % 8) × (result < 8) }
 {
-    (row / ROW_WIDTH % 8) as u32
+    field::<ROW_WIDTH, 8>(row)
 }
 
 pub(crate) fn height_exponent(row: u64) -> u32
     ensures { (result ≡ row / 1099511627776 % 8) × (result < 8) }
 {
-    (row / ROW_HEIGHT % 8) as u32
+    field::<ROW_HEIGHT, 8>(row)
 }
 
 // The depths of a row.
 pub fn qt_depth(row: u64) -> u32
     ensures { (result ≡ row / 281474976710656 % 256) × (result < 256) }
 {
-    (row / ROW_QT % 256) as u32
+    field::<ROW_QT, 256>(row)
 }
 
 pub fn mtt_depth(row: u64) -> u32
     ensures { (result ≡ row / 72057594037927936 % 256) × (result < 256) }
 {
-    (row / ROW_MTT % 256) as u32
+    field::<ROW_MTT, 256>(row)
 }
 
 // The sides that a row says.

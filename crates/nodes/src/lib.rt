@@ -18,6 +18,6 @@ pub use fields::{height, left, mtt_depth, qt_depth, top, width};
 pub use masks::{Table, luma_table};
 pub use open::{inner_splits, out_splits};
 pub use state::{
-    Child, child_answer, count, further, moved_to, one_more, place, position, refusal,
-    refusal_number, refusal_place,
+    child_answer, count, further, moved_to, one_more, place, position, refusal, refusal_number,
+    refusal_place,
 };

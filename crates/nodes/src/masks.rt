@@ -1,6 +1,5 @@
 // What the walks of one tree are given: the limits of its kind, and the splits that each side, and the area, let open.
 ghost use Rattle.std.specs.Prelude.{◌≡◌};
-ghost use Rattle.tree.specs.Splits.{same_direction};
 ghost use Rattle.tree.specs.Kind.{luma};
 ghost use Rattle.tree.specs.Splits.{open_splits};
 ghost use Rattle.nodes.specs.Tables.{side_rights, table_of};
@@ -8,6 +7,7 @@ ghost use Rattle.nodes.specs.Tables.{side_rights, table_of};
 use tree::{BH, BV, CUTS, Direction, Limits, QT, TH, TV};
 
 // The limits, a zero, and the masks of the widths and of the heights 4 to 128, and of the areas 16 to 16,384.
+// Stays: one array, since the definitions of the walks take a kind as one list (`table_of`, `limits_in`), so that another kind is another list.
 pub type Table = [u32; 31];
 
 // The places in it: of M,
@@ -23,34 +23,20 @@ pub(crate) const HEIGHT_MASKS: usize = 12;
 // and the area's, which is the sum of both.
 pub(crate) const AREA_MASKS: usize = 16;
 
-fn same(d: Direction, e: Direction) -> bool
-    ensures { result ≡ same_direction d e }
-{
-    match d {
-        Direction::Horizontal => match e {
-            Direction::Horizontal => true,
-            Direction::Vertical => false,
-        },
-        Direction::Vertical => match e {
-            Direction::Horizontal => false,
-            Direction::Vertical => true,
-        },
-    }
-}
-
+// Stays: limits, direction and side are arguments, in the order of the definition (`side_rights e l s`).
 // Whether a side lets a cut of direction d open: the side is the height where e is horizontal, the width where it is
 // vertical.
 fn binary_by(l: Limits, e: Direction, s: u32, d: Direction) -> bool
     ensures { result ≡ (side_rights e l s).binary d }
 {
-    (s <= l.maxbt) & (if same(d, e) { l.mincb < s } else { s <= 64 })
+    (s <= l.maxbt) & (if d == e { l.mincb < s } else { s <= 64 })
 }
 
 fn ternary_by(l: Limits, e: Direction, s: u32, d: Direction) -> bool
     ensures { result ≡ (side_rights e l s).ternary d }
 {
-    (s <= sides::least(64, l.maxtt))
-        & (if same(d, e) {
+    (s <= u32::min(64, l.maxtt))
+        & (if d == e {
             2 * (l.mincb as u64) < (s as u64)
         } else {
             true
@@ -67,6 +53,7 @@ fn quad_by(l: Limits, e: Direction, s: u32) -> bool
 }
 
 // The splits that a side lets open, as one number.
+#[tactic(auto, unfolding(tree::specs::Splits::open_splits))]
 fn side_mask(l: Limits, e: Direction, s: u32) -> u32
     ensures { result ≡ open_splits (side_rights e l s) }
 {
@@ -81,6 +68,7 @@ fn side_mask(l: Limits, e: Direction, s: u32) -> u32
 const ALL: u32 = QT + CUTS;
 
 // The table of the luma tree with these limits: it closes nothing by the area.
+#[tactic(auto, unfolding(crate::specs::Tables::table_of, tree::specs::Splits::open_splits))]
 pub fn luma_table(l: Limits) -> Table
     ensures { result ≡ table_of (luma l) }
 {

@@ -1,7 +1,11 @@
 // Where a walk is, as one number: the next place of what it reads and how many it has given so far, or a refusal's
 // number and place. The walks call each other with it and return it, since one number is passed in a register.
-ghost use Rattle.std.specs.Prelude.{◌≡◌, ◌+◌, ◌*◌, ◌%◌, ◌^◌, ◌<◌, if◌then◌else◌, nat_lt};
+// Stays: one number; as a result, which comes back in two registers, a walk takes 6 to 8 % more instructions.
+ghost use Rattle.std.specs.Prelude.{◌≡◌, ◌+◌, ◌*◌, ◌%◌, ◌^◌, ◌<◌, if◌then◌else◌, nat_lt, Ok, Err};
+ghost use Rattle.refusals.specs.Numbers.{number};
 ghost use Rattle.nodes.specs.State as State;
+
+use refusals::Reason;
 
 // What 1 in the count is in the number, and the least number of a refusal.
 const COUNT: u64 = 4294967296;
@@ -9,19 +13,13 @@ const COUNT: u64 = 4294967296;
 const REFUSED: u64 = 9223372036854775808;
 
 // A child's answer: it was walked and the walk goes on from there, or it was refused.
-#[derive(Clone, Copy)]
-pub enum Child {
-    Walked(u64),
-    Refused(u64),
-}
-
-pub fn child_answer(answer: u64) -> Child
-    ensures { result ≡ (if nat_lt answer 9223372036854775808 then Child.Walked answer else Child.Refused answer) }
+pub fn child_answer(answer: u64) -> Result<u64, u64>
+    ensures { result ≡ (if nat_lt answer 9223372036854775808 then Ok answer else Err answer) }
 {
     if answer < REFUSED {
-        Child::Walked(answer)
+        Ok(answer)
     } else {
-        Child::Refused(answer)
+        Err(answer)
     }
 }
 
@@ -49,30 +47,32 @@ pub fn position(place: usize, count: usize) -> u64
 pub fn further(c: u64, by: u64) -> u64
     ensures { result ≡ (c + by) % 2 ^ 64 }
 {
-    std::num::wrapping_add_u64(c, by)
+    c.wrapping_add(by)
 }
 
 // The same walk at another place.
 pub fn moved_to(c: u64, next: usize) -> u64
     ensures { (result + State.place_of c) % 2 ^ 64 ≡ (c + next) % 2 ^ 64 }
 {
-    std::num::wrapping_add_u64(c, std::num::wrapping_sub_u64(next as u64, place(c) as u64))
+    c.wrapping_add((next as u64).wrapping_sub(place(c) as u64))
 }
 
 // The same walk after one more that is given.
 pub fn one_more(c: u64) -> u64
     ensures { result ≡ (c + 4294967296) % 2 ^ 64 }
 {
-    std::num::wrapping_add_u64(c, COUNT)
+    further(c, COUNT)
 }
 
 // A walk that is refused.
-pub fn refusal(number: u32, place: usize) -> u64
-    ensures { result ≡ State.refusal (number % 32) (place % 288230376151711744) }
+pub fn refusal(reason: Reason, place: usize) -> u64
+    ensures { result ≡ State.refusal (number reason % 32) (place % 288230376151711744) }
 {
+    let number = reason.number();
     REFUSED + (place % 288230376151711744) as u64 * 32 + (number % 32) as u64
 }
 
+// Stays: the number, for the reasons that a walk can have are its reader's to tell (`walk_refusal`, reader/src/deliver.rt).
 // The number and the place of its refusal.
 pub fn refusal_number(c: u64) -> u32
     ensures { result ≡ State.refusal_number c }
