@@ -1,5 +1,5 @@
 -- The rules of H.265's settings: what each test tells, and what settings that pass give.
-use Prim.Native.Nat.{ℕ, ◌%◌, max}
+use Prim.Native.Nat.{ℕ, ◌%◌, ◌^◌, ◌<◌}
 use mathlib.Core.Path.{◌≡◌, refl}
 use mathlib.Core.Bool.{Bool, true, false, cond, ◌||◌}
 use mathlib.Core.Logic.{inl, inr}
@@ -7,9 +7,10 @@ use native.Mathlib.Omega.{arith}
 use lib.Dec.{ltb, eqb}
 use lib.Count.{count_trailing_zeros}
 use borrow.Author.Tests.{eqb-true, eqb-false, eq-eqb, ne_eqb, le-ltb, ltb-false, not-true, not-false}
+use Rattle.sides.specs.Side.{exponent, side_from}
 use Rattle.sides.proofs.Bools.{clash, or_none_left, or_none_right}
-use Rattle.sides.proofs.Powers.{Side, side}
-use Rattle.settings.specs.Checks as h266
+use Rattle.sides.specs.Side.{Side}
+use Rattle.sides.proofs.Powers.{side}
 use Rattle.settings.specs.Faults.{PowerFrom}
 use Rattle.settings.proofs.Faults.{power_side, side_power}
 use Rattle.h265settings.specs.declared.Settings.{Settings}
@@ -72,9 +73,8 @@ smallest_side {ctu} {n} c p =
     let b = side 8 ctu n (omega arith) (power_side p) in
     record { is = b.is; least = b.least; most = omega arith }
 
--- beside it 8 plays no part, so the length is tested as H.266's
-pub same_length : {smallest : ℕ} → Side 8 64 smallest → (n : ℕ) → h266.bad_length smallest n ≡ bad_length smallest n
-same_length {smallest} b n = let m : max 8 smallest ≡ smallest = omega arith in rw m
+pub power_of_side : (ctu n : ℕ) → ctu < 4294967296 → side_from 8 ctu n ≡ true → n ≡ 2 ^ exponent n
+power_of_side ctu n l h = (side 8 ctu n l h).is
 
 pub length_rule : (smallest n : ℕ) → Rule (bad_length smallest n) (PictureSide smallest n)
 length_rule smallest n = record { broken = λ e p. bad e p; kept = good }

@@ -5,9 +5,10 @@ use mathlib.Core.Bool.{Bool, true, false, cond}
 use mathlib.Core.Logic.{inl, inr}
 use native.Mathlib.Omega.{arith}
 use Rattle.settings.specs.Units.{Gridded}
-use Rattle.unit.specs.Luma.{limits_of}
+use Rattle.unit.specs.Luma.{limits_of, LumaUnits}
 use Rattle.unit.specs.Exactly.{OneOf}
-use Rattle.unit.proofs.Roots.{Usable, usable_root}
+use Rattle.unit.specs.Usable.{Usable}
+use Rattle.unit.proofs.Roots.{usable_root}
 use Rattle.unit.proofs.Sound.{Sound}
 use Rattle.h265settings.specs.declared.Settings.{Settings}
 use Rattle.h265settings.specs.Checks.{bad_ctu, bad_smallest, bad_length, settings_refusal}
@@ -40,6 +41,10 @@ module _ {s : Settings} (p : Passed s) where
         height = whole s.height p.height.2;
         edge = λ flat. (p.width.2, p.height.2);
       }
+
+-- their units are those of the settings of H.266 that have the same trees
+pub quad_settings : (s : Settings) → LumaUnits (units_of s) (as_luma s)
+quad_settings s = record { kind = refl; count = refl; square = λ a. refl; usable = λ e. usable (passed s e) }
 
 -- ---- the faults
 

@@ -1,33 +1,30 @@
 // The units of the picture, by the settings of H.266 that have the same trees.
-ghost use Rattle.std.specs.Prelude.{◌≡◌};
-ghost use Rattle.h265settings.specs.Units.{as_luma, count_of};
+ghost use Rattle.h265settings.specs.Units.{units_of};
 
-use crate::{Settings, refusal};
-use settings::Count;
+use crate::{Settings, checks};
+use refusals::Reason;
+use unit::Coding;
 
-// H.266's eight numbers for a quad tree: it is the luma tree without cuts, M = 0, down to the smallest side.
-pub fn as_luma(s: Settings) -> settings::Settings
-    ensures { result ≡ as_luma s }
-{
-    settings::Settings {
-        ctu: s.ctu,
-        mincb: s.smallest,
-        minqt: s.smallest,
-        maxmtt: 0,
-        maxbt: s.smallest,
-        maxtt: s.smallest,
-        width: s.width,
-        height: s.height,
+impl Coding for Settings {
+    ghost units = { units_of };
+
+    // 34, 35, 7 and 8.
+    fn check(self) -> Result<(), Reason> {
+        checks::check(self)
     }
-}
 
-// How many units the picture has, or the settings' refusal.
-pub fn unit_count(s: Settings) -> Count
-    ensures { result ≡ count_of s }
-{
-    let k = refusal(s);
-    if k != 0 {
-        return Count::Refused(k);
+    // A quad tree is the luma tree without cuts, M = 0, down to the smallest side.
+    #[tactic(auto, using(crate::proofs::Sound::quad_settings))]
+    fn as_luma(self) -> settings::Settings {
+        settings::Settings {
+            ctu: self.ctu,
+            mincb: self.smallest,
+            minqt: self.smallest,
+            maxmtt: 0,
+            maxbt: self.smallest,
+            maxtt: self.smallest,
+            width: self.width,
+            height: self.height,
+        }
     }
-    Count::Units(settings::count_in(s.ctu, s.width, s.height))
 }

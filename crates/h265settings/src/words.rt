@@ -4,13 +4,16 @@ ghost use Rattle.h265settings.specs.Words.{settings_in};
 
 use crate::Settings;
 
-pub fn from_words(words: &[u32; 4]) -> Settings
-    ensures { result ≡ settings_in words.now }
-{
-    Settings {
-        ctu: words[0],
-        smallest: words[1],
-        width: words[2],
-        height: words[3],
+impl From<[u32; 4]> for Settings {
+    ghost from_gives = { λ words settings. settings ≡ settings_in words };
+
+    fn from(words: [u32; 4]) -> Settings {
+        let [ctu, smallest, width, height] = words;
+        Settings {
+            ctu,
+            smallest,
+            width,
+            height,
+        }
     }
 }

@@ -14,7 +14,7 @@ use Rattle.laws.specs.Every.{Every}
 use Rattle.laws.specs.Geometry.{SmallRow}
 use Rattle.laws.proofs.Tables.{table_back}
 use Rattle.laws.proofs.Tests.{never}
-use Rattle.unit.specs.declared.Answer.TheVariants.{Accepted}
+use Rattle.refusals.specs.Said.{Accepted}
 use Rattle.unit.specs.Answers.{Outcome, accepted}
 use Rattle.unit.specs.Reader.{read_tree}
 use Rattle.unit.specs.Writer.{write_rows}

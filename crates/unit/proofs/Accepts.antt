@@ -8,7 +8,7 @@ use lib.Dec.{ltb}
 use borrow.Author.Tests.{lt-ltb, le-ltb, ltb-true}
 use Rattle.tree.specs.Run.{Run, End, goes, stops}
 use Rattle.laws.proofs.Tests.{never}
-use Rattle.unit.specs.declared.Answer.TheVariants.{Accepted, Refused}
+use Rattle.refusals.specs.Said.{Accepted, Refused}
 use Rattle.unit.specs.Answers.{refused, accepted, deliver, answer_of}
 use Rattle.unit.specs.Exactly.{OneOf, AcceptedOr}
 

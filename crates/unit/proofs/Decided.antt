@@ -11,8 +11,8 @@ use Rattle.tree.specs.Rows.{table_bytes}
 use Rattle.tree.specs.Run.{stops}
 use Rattle.tree.specs.Tree.{flags_of, rows_of}
 use Rattle.laws.proofs.Tests.{never}
-use Rattle.unit.specs.declared.Answer.{Answer}
-use Rattle.unit.specs.declared.Answer.TheVariants.{Accepted, Refused}
+use Rattle.unit.specs.Answers.{Answer}
+use Rattle.refusals.specs.Said.{Accepted, Refused}
 use Rattle.unit.specs.Answers.{number_of, ZeroIsAccepted, Outcome, refused, deliver}
 use Rattle.unit.specs.Units.{Units, refusal_in, root_in}
 use Rattle.unit.specs.Reader.{read_in}

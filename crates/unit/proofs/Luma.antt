@@ -1,5 +1,5 @@
 -- H.266's settings that pass give units as the laws ask.
-use Prim.Native.Nat.{ℕ, ◌+◌}
+use Prim.Native.Nat.{ℕ, ◌+◌, ◌≤◌}
 use mathlib.Core.Path.{◌≡◌, refl}
 use mathlib.Core.Bool.{Bool, true, false}
 use mathlib.Core.List.{List, [], ◌∷◌, ◌++◌}
@@ -9,11 +9,13 @@ use Rattle.settings.specs.declared.Settings.{Settings}
 use Rattle.settings.specs.Checks.{side_rules, limit_rules, picture_rules, first_hit, settings_refusal}
 use Rattle.settings.specs.Faults.{settings_numbers, SettingsFault}
 use Rattle.settings.proofs.Faults.{settings_fault, settings_refused, fault_range}
-use Rattle.settings.proofs.Grid.{gridded}
+use Rattle.settings.proofs.Grid.{gridded, count_most}
 use Rattle.settings.proofs.Passed.{Passed, passed}
-use Rattle.unit.specs.Luma.{limits_of, units_of}
+use Rattle.unit.specs.Luma.{limits_of, units_of, LumaUnits}
+use Rattle.unit.specs.Usable.{Usable}
+use Rattle.unit.specs.Units.{Units}
 use Rattle.unit.specs.Exactly.{OneOf}
-use Rattle.unit.proofs.Roots.{Usable, usable_root}
+use Rattle.unit.proofs.Roots.{usable_root}
 use Rattle.unit.proofs.Sound.{Sound}
 
 pub usable : {s : Settings} → Passed s → Usable s.ctu (limits_of s)
@@ -64,3 +66,11 @@ module _ (s : Settings) where
     listed = settings_number;
     others = refl;
   }
+
+-- they are the units of their own eight numbers
+pub luma_settings : (s : Settings) → LumaUnits (units_of s) s
+luma_settings s = record { kind = refl; count = refl; square = λ a. refl; usable = λ e. usable (passed s e) }
+
+-- settings that pass have so many units at most
+pub few_units : {us : Units} {s : Settings} → LumaUnits us s → us.refusal ≡ 0 → us.count ≤ 1048576
+few_units l e = rw l.count (count_most (l.usable e).grid)

@@ -7,8 +7,8 @@ use mathlib.Core.Logic.{inl, inr}
 use borrow.Author.Tests.{eq-eqb}
 use lib.Dec.{eqb}
 use Rattle.sides.proofs.Bools.{clash, and_left, and_right}
-use Rattle.unit.specs.declared.Answer.{Answer}
-use Rattle.unit.specs.declared.Answer.TheVariants.{Accepted, Refused}
+use Rattle.unit.specs.Answers.{Answer}
+use Rattle.refusals.specs.Said.{Accepted, Refused}
 use Rattle.unit.specs.Answers.{number_of}
 use Rattle.unit.specs.Exactly.{OneOf, AcceptedOr}
 

@@ -13,7 +13,7 @@ use Rattle.tree.specs.Tree.{flags_of, rows_of}
 use Rattle.laws.proofs.Tests.{never}
 use Rattle.laws.proofs.Unique.{tree_unique}
 use Rattle.laws.proofs.Reading.{ReadingIsTree}
-use Rattle.unit.specs.declared.Answer.TheVariants.{Accepted}
+use Rattle.refusals.specs.Said.{Accepted}
 use Rattle.unit.specs.Answers.{refused, deliver}
 use Rattle.unit.specs.Units.{Units, refusal_in, root_in}
 use Rattle.unit.specs.Reader.{read_tree, read_located, read_in}

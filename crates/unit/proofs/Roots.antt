@@ -1,13 +1,12 @@
 -- The root of a unit that is there: what the laws of coding trees ask of it.
-use Prim.Native.Nat.{ℕ, ◌+◌, ◌%◌, ◌^◌, ◌≤◌, ◌<◌, min, max}
+use Prim.Native.Nat.{ℕ, ◌+◌, ◌^◌, ◌≤◌, ◌<◌}
 use mathlib.Core.Path.{◌≡◌, refl}
 use mathlib.Core.Bool.{true}
 use native.Mathlib.Omega.{arith}
 use native.Mathlib.Nat.{mul-mod_left}
 use borrow.Author.Tests.{lt-ltb}
 use Rattle.sides.proofs.Bools.{and_intro}
-use Rattle.sides.proofs.Powers.{Side}
-use Rattle.settings.specs.Units.{count_in, square_in, Gridded}
+use Rattle.settings.specs.Units.{count_in, square_in}
 use Rattle.settings.proofs.Grid.{corner_x, corner_y}
 use Rattle.tree.specs.declared.Direction.{Direction}
 use Rattle.tree.specs.declared.Direction.TheVariants.{Horizontal, Vertical}
@@ -20,6 +19,7 @@ use Rattle.laws.specs.Good.{Good}
 use Rattle.laws.specs.Proper.{Proper, RootSquare}
 use Rattle.laws.proofs.Edge.{good_root}
 use Rattle.unit.specs.Units.{root_of}
+use Rattle.unit.specs.Usable.{Usable}
 
 -- a root in the picture, with what the laws ask
 pub record Root (k : Kind) (root : Node) : Type 0 where
@@ -36,15 +36,6 @@ picture_most r Horizontal = let h = r.high in omega arith
 picture_most r Vertical = let w = r.wide in omega arith
 
 -- ---- the luma tree of limits that the laws can use, in units of a side
-
-pub record Usable (side : ℕ) (l : Limits) : Type 0 where
-  pub grid : Gridded side l.width l.height
-  pub cb : Side 4 64 l.mincb
-  pub qt : Side l.mincb (min 64 side) l.minqt
-  pub bt : l.minqt ≤ l.maxbt
-  pub width : l.width % max 8 l.mincb ≡ 0
-  pub height : l.height % max 8 l.mincb ≡ 0
-  pub edge : l.maxmtt ≡ 0 → (l.width % l.minqt ≡ 0) × (l.height % l.minqt ≡ 0)
 
 module _ {side : ℕ} {l : Limits} (p : Usable side l) where
   usable_proper : Proper (luma l)

@@ -11,7 +11,7 @@ use lib.Seq.{take-append_seam}
 use Rattle.tree.specs.Rows.{table_bytes}
 use Rattle.tree.specs.Tree.{flags_of, rows_of}
 use Rattle.laws.proofs.Tests.{never}
-use Rattle.unit.specs.declared.Answer.TheVariants.{Accepted}
+use Rattle.refusals.specs.Said.{Accepted}
 use Rattle.unit.specs.Answers.{number_of, accepted}
 use Rattle.unit.specs.Units.{Units, refusal_in, root_in}
 use Rattle.unit.specs.Reader.{read_in}

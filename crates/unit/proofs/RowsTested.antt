@@ -4,7 +4,7 @@ use mathlib.Core.Path.{◌≡◌, refl, sym, ap, ◌∙◌}
 use mathlib.Core.List.{List}
 use Rattle.tree.specs.Run.{stops}
 use Rattle.laws.proofs.Tests.{never}
-use Rattle.unit.specs.declared.Answer.TheVariants.{Refused}
+use Rattle.refusals.specs.Said.{Refused}
 use Rattle.unit.specs.Answers.{answer_of}
 use Rattle.unit.specs.Units.{Units}
 use Rattle.unit.specs.Writer.{test_in}

@@ -10,7 +10,7 @@ use Rattle.tree.specs.Rows.{table_bytes}
 use Rattle.tree.specs.Tree.{flags_of, rows_of}
 use Rattle.laws.proofs.FlagRows.{flags_four_rows}
 use Rattle.laws.proofs.Sizes.{rows_fit}
-use Rattle.unit.specs.declared.Answer.TheVariants.{Accepted, Refused}
+use Rattle.refusals.specs.Said.{Accepted, Refused}
 use Rattle.unit.specs.Units.{Units, refusal_in, root_in}
 use Rattle.unit.specs.Reader.{read_in}
 use Rattle.unit.specs.Writer.{write_in}

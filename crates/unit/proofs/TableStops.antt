@@ -13,8 +13,8 @@ use Rattle.tree.specs.Run.{stops}
 use Rattle.tree.specs.Tree.{rows_of}
 use Rattle.laws.specs.Begins.{HasRows, GoesOn, GoesPast, LeavesAt}
 use Rattle.laws.proofs.Tests.{never}
-use Rattle.unit.specs.declared.Answer.{Answer}
-use Rattle.unit.specs.declared.Answer.TheVariants.{Refused}
+use Rattle.unit.specs.Answers.{Answer}
+use Rattle.refusals.specs.Said.{Refused}
 use Rattle.unit.specs.Answers.{answer_of}
 use Rattle.unit.specs.Units.{Units, refusal_in, root_in}
 use Rattle.unit.specs.Writer.{test_in, write_in}

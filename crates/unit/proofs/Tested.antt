@@ -16,7 +16,7 @@ use Rattle.laws.proofs.Runs.{gives}
 use Rattle.laws.proofs.Tests.{never}
 use Rattle.laws.proofs.Turning.{TurningIsTree}
 use Rattle.laws.proofs.Searching.{SearchIsTree}
-use Rattle.unit.specs.declared.Answer.TheVariants.{Accepted}
+use Rattle.refusals.specs.Said.{Accepted}
 use Rattle.unit.specs.Answers.{answer_of}
 use Rattle.unit.specs.Units.{Units, refusal_in, root_in}
 use Rattle.unit.specs.Writer.{flags_from, test_rows, test_located, test_in}

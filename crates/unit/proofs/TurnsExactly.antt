@@ -11,7 +11,7 @@ use Rattle.tree.specs.Run.{stops}
 use Rattle.tree.specs.Tree.{flags_of, rows_of}
 use Rattle.laws.proofs.Runs.{gives}
 use Rattle.laws.proofs.Tests.{never}
-use Rattle.unit.specs.declared.Answer.TheVariants.{Accepted}
+use Rattle.refusals.specs.Said.{Accepted}
 use Rattle.unit.specs.Answers.{number_of, refused, deliver, finish_end}
 use Rattle.unit.specs.Units.{Units, refusal_in, root_in}
 use Rattle.unit.specs.Writer.{test_in, write_rows, write_located, write_in}

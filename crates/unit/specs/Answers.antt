@@ -1,8 +1,11 @@
 -- Answers: document 01's numbers and values, and what a call leaves in the buffer that it was lent.
 use Rattle.std.specs.Prelude.{ℕ, ◌≡◌, cond, List, ◌++◌, ◌↔◌, length, drop, ltb}
 use Rattle.tree.specs.Run.{Run, End, goes, stops}
-use Rattle.unit.specs.declared.Answer.{Answer}
-use Rattle.unit.specs.declared.Answer.TheVariants.{Accepted, Refused}
+use Rattle.refusals.specs.Said.{Said, Accepted, Refused}
+
+-- an answer: what an accepted call gives, as a number, or a refusal's number and place
+abbrev pub Answer : Type 0
+Answer = Said ℕ
 
 -- document 01's number of an answer: that of a refusal, or 0 where the call is accepted
 abbrev pub number_of : Answer → ℕ

@@ -2,7 +2,7 @@
 -- for so many are never too short. The unit call on the due unit is this reading (`Demand1.due_unit`, picture/specs/Demand1.antt).
 use Rattle.std.specs.Prelude.{ℕ, ◌*◌, ◌≤◌, ◌≡◌, cond, List, length, eqb}
 use Rattle.settings.specs.declared.Settings.{Settings}
-use Rattle.unit.specs.declared.Answer.TheVariants.{Accepted, Refused}
+use Rattle.refusals.specs.Said.{Accepted, Refused}
 use Rattle.unit.specs.Units.{Units}
 use Rattle.unit.specs.Luma.{units_of}
 use Rattle.unit.specs.Reader.{read_in}

@@ -3,7 +3,7 @@
 use Rattle.std.specs.Prelude.{ℕ, ◌*◌, ◌%◌, ◌≡◌, List, ◌↔◌, length, take}
 use Rattle.settings.specs.declared.Settings.{Settings}
 use Rattle.settings.specs.Units.{unit_refusal}
-use Rattle.unit.specs.declared.Answer.TheVariants.{Accepted}
+use Rattle.refusals.specs.Said.{Accepted}
 use Rattle.unit.specs.Answers.{number_of}
 use Rattle.unit.specs.Units.{Units}
 use Rattle.unit.specs.Luma.{units_of}

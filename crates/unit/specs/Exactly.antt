@@ -2,8 +2,8 @@
 use Rattle.std.specs.Prelude.{ℕ, ◌%◌, ◌<◌, ◌≡◌, List, [], ◌∷◌, ◌⊎◌, ◌↔◌, length}
 use Rattle.tree.specs.Rows.{table_bytes}
 use Rattle.tree.specs.Tree.{Tree, flags_of, rows_of}
-use Rattle.unit.specs.declared.Answer.{Answer}
-use Rattle.unit.specs.declared.Answer.TheVariants.{Accepted, Refused}
+use Rattle.unit.specs.Answers.{Answer}
+use Rattle.refusals.specs.Said.{Accepted, Refused}
 use Rattle.unit.specs.Answers.{number_of, deliver}
 use Rattle.unit.specs.Units.{Units, root_in}
 use Rattle.unit.specs.Reader.{read_in}

@@ -6,8 +6,8 @@ use Rattle.tree.specs.Kind.{Kind}
 use Rattle.tree.specs.Rows.{Row, table_bytes, rows_in}
 use Rattle.tree.specs.Tree.{Tree, flags_of, rows_of}
 use Rattle.laws.specs.Begins.{GoesOn, GoesPast, LeavesAt}
-use Rattle.unit.specs.declared.Answer.{Answer}
-use Rattle.unit.specs.declared.Answer.TheVariants.{Accepted, Refused}
+use Rattle.unit.specs.Answers.{Answer}
+use Rattle.refusals.specs.Said.{Accepted, Refused}
 use Rattle.unit.specs.Units.{Units, refusal_in, root_in}
 use Rattle.unit.specs.Exactly.{UnitTree, AcceptedOr}
 

@@ -7,7 +7,7 @@ use Rattle.settings.specs.Units.{unit_refusal}
 use Rattle.tree.specs.Rows.{table_bytes}
 use Rattle.tree.specs.Tree.{flags_of, rows_of}
 use Rattle.laws.specs.Counts.{flag_count}
-use Rattle.unit.specs.declared.Answer.TheVariants.{Accepted, Refused}
+use Rattle.refusals.specs.Said.{Accepted, Refused}
 use Rattle.unit.specs.Units.{Units}
 use Rattle.unit.specs.Luma.{units_of}
 use Rattle.unit.specs.Reader.{read_in}

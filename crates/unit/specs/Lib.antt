@@ -1,5 +1,6 @@
 pub mod Answers
 pub mod Units
+pub mod Usable
 pub mod Luma
 pub mod Reader
 pub mod Writer

@@ -1,8 +1,8 @@
 -- The reader of a single unit: the refusals of its settings, document 01's refusals 10 to 14, the number of rows, and the row buffer afterwards.
+use Rattle.std.specs.Prelude.{Ok, Err}
 use Rattle.std.specs.Prelude.{ℕ, cond, List, length, ltb}
 use Rattle.settings.specs.declared.Settings.{Settings}
-use Rattle.settings.specs.declared.Located.{Located}
-use Rattle.settings.specs.declared.Located.TheVariants as unit
+use Rattle.settings.specs.Units.{Located}
 use Rattle.tree.specs.declared.Node.{Node}
 use Rattle.tree.specs.Kind.{Kind}
 use Rattle.tree.specs.Rows.{Row, table_bytes}
@@ -27,8 +27,8 @@ read_tree k root flags buffer = finish table_bytes 14 (rows_from k root flags) b
 
 -- the reading of a unit that was looked for: its refusal, then 11 to 14
 unfoldable pub read_located : Kind → Located → List ℕ → List ℕ → Outcome
-read_located k (unit.At q) flags buffer = read_tree k (root_of q) flags buffer
-read_located k (unit.Refused number) flags buffer = refused number 0 buffer
+read_located k (Ok q) flags buffer = read_tree k (root_of q) flags buffer
+read_located k (Err number) flags buffer = refused number 0 buffer
 
 -- the reading of a unit
 abbrev pub read_in : Units → ℕ → List ℕ → List ℕ → Outcome

@@ -3,7 +3,7 @@ use Rattle.std.specs.Prelude.{ℕ, ◌≡◌, List, length}
 use Rattle.settings.specs.declared.Settings.{Settings}
 use Rattle.tree.specs.Rows.{table_bytes}
 use Rattle.tree.specs.Tree.{flags_of, rows_of}
-use Rattle.unit.specs.declared.Answer.TheVariants.{Accepted}
+use Rattle.refusals.specs.Said.{Accepted}
 use Rattle.unit.specs.Answers.{answer_of}
 use Rattle.unit.specs.Units.{Units, refusal_in}
 use Rattle.unit.specs.Luma.{units_of}

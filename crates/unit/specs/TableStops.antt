@@ -8,8 +8,8 @@ use Rattle.tree.specs.Kind.{Kind}
 use Rattle.tree.specs.Rows.{Row, rows_in}
 use Rattle.tree.specs.Tree.{rows_of}
 use Rattle.laws.specs.Begins.{HasRows, GoesOn, GoesPast, LeavesAt}
-use Rattle.unit.specs.declared.Answer.{Answer}
-use Rattle.unit.specs.declared.Answer.TheVariants.{Refused}
+use Rattle.unit.specs.Answers.{Answer}
+use Rattle.refusals.specs.Said.{Refused}
 use Rattle.unit.specs.Answers.{answer_of}
 use Rattle.unit.specs.Units.{Units, root_in}
 use Rattle.unit.specs.Luma.{units_of}

@@ -1,7 +1,7 @@
 -- The units of a picture as the calls on them take them, whatever settings say them: H.266's (Luma.antt) or others.
 use Rattle.std.specs.Prelude.{ℕ, List}
 use Rattle.settings.specs.declared.Square.{Square}
-use Rattle.settings.specs.declared.Located.{Located}
+use Rattle.settings.specs.Units.{Located}
 use Rattle.settings.specs.Units.{refusal_at, located_by}
 use Rattle.tree.specs.declared.Node.{Node}
 use Rattle.tree.specs.declared.Decision.TheVariants.{Leaf}

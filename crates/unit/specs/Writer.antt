@@ -1,9 +1,9 @@
 -- The way back of a single unit: its test, the refusals of its settings, document 01's 10 and 15, and 27, 28 and 16 of document 02's R-5; then refusal 17, the
 -- number of flags, and the flag buffer afterwards.
+use Rattle.std.specs.Prelude.{Ok, Err}
 use Rattle.std.specs.Prelude.{ℕ, zero, suc, ◌-◌, ◌/◌, ◌%◌, cond, List, [], ◌∷◌, length, eqb}
 use Rattle.settings.specs.declared.Settings.{Settings}
-use Rattle.settings.specs.declared.Located.{Located}
-use Rattle.settings.specs.declared.Located.TheVariants as unit
+use Rattle.settings.specs.Units.{Located}
 use Rattle.tree.specs.declared.Node.{Node}
 use Rattle.tree.specs.Kind.{Kind}
 use Rattle.tree.specs.Rows.{Row, rows_in}
@@ -33,8 +33,8 @@ test_rows k root bytes =
 
 -- the test of the table of a unit that was looked for: the unit's refusal, then 15, 27, 28 and 16, or the flags that give exactly its rows
 unfoldable pub test_located : Kind → Located → List ℕ → Run ℕ (List Row)
-test_located k (unit.At q) bytes = test_rows k (root_of q) bytes
-test_located k (unit.Refused number) bytes = refuse number 0
+test_located k (Ok q) bytes = test_rows k (root_of q) bytes
+test_located k (Err number) bytes = refuse number 0
 
 abbrev pub test_in : Units → ℕ → List ℕ → Run ℕ (List Row)
 test_in us address bytes = test_located us.kind (located_in us address) bytes
