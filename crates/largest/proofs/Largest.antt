@@ -19,8 +19,8 @@ use Rattle.tree.specs.Children.{shares, child_qt, child_mtt, child_offset, child
 use Rattle.tree.specs.Rows.{row_of, own_rows, row_bytes, table_bytes}
 use Rattle.tree.specs.Run.{before, go_on, over_all}
 use Rattle.tree.specs.Reading.{enter, walk}
-use Rattle.unit.specs.declared.Answer.{Answer}
-use Rattle.unit.specs.declared.Answer.TheVariants.{Accepted, Refused}
+use Rattle.unit.specs.Answers.{Answer}
+use Rattle.refusals.specs.Said.{Accepted, Refused}
 use Rattle.unit.specs.Answers.{deliver, finish_end}
 use Rattle.unit.specs.Reader.{none_after, rows_from, read_tree, read_located, read_unit}
 use Rattle.unit.specs.Cases.{settings}

@@ -2,7 +2,7 @@
 -- those by the CTU side (`Bounds`, unit/specs/Bounds.antt).
 use Rattle.std.specs.Prelude.{ℕ, zero, suc, ◌+◌, ◌-◌, ◌*◌, ◌/◌, ◌%◌, ◌≤◌, ◌≡◌, cond, List, [], ◌∷◌, ◌++◌, length, replicate, leb}
 use Rattle.settings.specs.declared.Settings.{Settings}
-use Rattle.unit.specs.declared.Answer.TheVariants.{Accepted}
+use Rattle.refusals.specs.Said.{Accepted}
 use Rattle.unit.specs.Reader.{read_unit}
 use Rattle.unit.specs.Bounds.{most_flags}
 use Rattle.unit.specs.Cases.{settings}

@@ -12,9 +12,9 @@ use Rattle.tree.specs.declared.Direction.{Direction}
 use Rattle.tree.specs.declared.Direction.TheVariants.{Horizontal, Vertical}
 use Rattle.tree.specs.declared.Decision.{Decision}
 use Rattle.tree.specs.declared.Decision.TheVariants.{Leaf, Quad, Binary, Ternary}
-use Rattle.tree.specs.declared.Flag.{Flag}
-use Rattle.tree.specs.declared.Flag.TheVariants.{Value, Bad}
-use Rattle.tree.specs.declared.Choice.TheVariants.{Chosen}
+use Rattle.tree.specs.Flags.{Flag}
+use Rattle.tree.specs.Flags.{Value, Bad}
+use Rattle.tree.specs.Flags.{Chosen}
 use Rattle.tree.specs.Splits.{pick, bit, Rights, allows}
 use Rattle.tree.specs.Flags.{some_open, split_there, split_absent, quad_there, quad_absent, vertical_there, vertical_absent, binary_there, binary_absent, flag_at, after_binary, cut_at, after_vertical, after_quad, after_split, decide, flag_byte, cut_flags, flags_for}
 use Rattle.laws.proofs.Tests.{never, same_self}

@@ -5,7 +5,7 @@ use mathlib.Core.Bool.{true}
 use native.Mathlib.Omega.{arith}
 use native.Mathlib.Decide.{dec_lt}
 use lib.Pow.{pow_mono}
-use Rattle.sides.proofs.Powers.{Side as PowerSide}
+use Rattle.sides.specs.Side.{Side as PowerSide}
 use Rattle.sides.specs.Side.{exponent}
 use Rattle.tree.specs.declared.Node.{Node}
 use Rattle.tree.specs.declared.Share.{Share}

@@ -6,8 +6,8 @@ use mathlib.Core.List.{List, [], ◌∷◌, ◌++◌, append_assoc}
 use native.Mathlib.Omega.{arith}
 use Rattle.tree.specs.declared.Node.{Node}
 use Rattle.tree.specs.declared.Decision.{Decision}
-use Rattle.tree.specs.declared.Choice.{Choice}
-use Rattle.tree.specs.declared.Choice.TheVariants.{Chosen, Refused}
+use Rattle.tree.specs.Flags.{Choice}
+use Rattle.tree.specs.Flags.{Chosen, Refused}
 use Rattle.tree.specs.Kind.{Kind}
 use Rattle.tree.specs.Splits.{rights_of, allows}
 use Rattle.tree.specs.Flags.{decide, flags_for}

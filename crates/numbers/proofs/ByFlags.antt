@@ -8,7 +8,7 @@ use native.Mathlib.Omega.{arith}
 use Rattle.tree.specs.declared.Node.{Node}
 use Rattle.tree.specs.declared.Decision.{Decision}
 use Rattle.tree.specs.declared.Decision.TheVariants.{Leaf, Quad, Binary, Ternary}
-use Rattle.tree.specs.declared.Choice.TheVariants.{Chosen}
+use Rattle.tree.specs.Flags.{Chosen}
 use Rattle.tree.specs.Kind.{Kind}
 use Rattle.tree.specs.Splits.{rights_of, allows}
 use Rattle.tree.specs.Flags.{decide, flags_for}

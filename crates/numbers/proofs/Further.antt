@@ -10,8 +10,8 @@ use Rattle.tree.specs.declared.Node.{Node}
 use Rattle.tree.specs.declared.Direction.TheVariants.{Horizontal, Vertical}
 use Rattle.tree.specs.declared.Decision.{Decision}
 use Rattle.tree.specs.declared.Decision.TheVariants.{Ternary}
-use Rattle.tree.specs.declared.Choice.{Choice}
-use Rattle.tree.specs.declared.Choice.TheVariants.{Chosen, Refused}
+use Rattle.tree.specs.Flags.{Choice}
+use Rattle.tree.specs.Flags.{Chosen, Refused}
 use Rattle.tree.specs.Kind.{Kind}
 use Rattle.tree.specs.Splits.{Rights, rights_of}
 use Rattle.tree.specs.Flags.{cut_open, some_cut, some_open, flag_at, after_binary, after_vertical, after_quad, after_split, decide, flags_for}

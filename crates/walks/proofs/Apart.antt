@@ -6,8 +6,7 @@ use lib.Dec.{ltb}
 use borrow.Author.Tests.{ltb-true, ltb-false}
 use Rattle.sides.proofs.Bools.{not-not}
 use Rattle.laws.proofs.Tests.{never}
-use Rattle.nodes.specs.declared.state.Child.{Child}
-use Rattle.nodes.specs.declared.state.Child.TheVariants.{Walked, Refused}
+use Rattle.std.specs.Prelude.{Result, Ok, Err}
 
 -- `if !found`, where what is found is said otherwise, and `if found | other`
 pub tested_not : {found said b : Bool} → found ≡ said → not found ≡ b → said ≡ not b
@@ -17,19 +16,19 @@ pub tested_or : {found other said too b : Bool} → found ≡ said → other ≡
 tested_or e f h = ap₂ (λ x y. x || y) (sym e) (sym f) ∙ h
 
 module _ (a : ℕ) where
-  abbrev apart : Bool → Child
-  apart b = cond b (Walked a) (Refused a)
+  abbrev apart : Bool → Result ℕ ℕ
+  apart b = cond b (Ok a) (Err a)
 
-  pub was_walked : {r : Child} {x : ℕ} → r ≡ apart (ltb a 9223372036854775808) → r ≡ Walked x → (x ≡ a) × (a < 9223372036854775808)
+  pub was_walked : {r : Result ℕ ℕ} {x : ℕ} → r ≡ apart (ltb a 9223372036854775808) → r ≡ Ok x → (x ≡ a) × (a < 9223372036854775808)
   was_walked {r} {x} e f = go (ltb a 9223372036854775808) refl (sym e ∙ f)
     where
-      go : (b : Bool) → ltb a 9223372036854775808 ≡ b → apart b ≡ Walked x → (x ≡ a) × (a < 9223372036854775808)
+      go : (b : Bool) → ltb a 9223372036854775808 ≡ b → apart b ≡ Ok x → (x ≡ a) × (a < 9223372036854775808)
       go true t h = (cc, ltb-true _ _ t)
       go false t h = never (cc)
 
-  pub was_refused : {r : Child} {x : ℕ} → r ≡ apart (ltb a 9223372036854775808) → r ≡ Refused x → 9223372036854775808 ≤ a
+  pub was_refused : {r : Result ℕ ℕ} {x : ℕ} → r ≡ apart (ltb a 9223372036854775808) → r ≡ Err x → 9223372036854775808 ≤ a
   was_refused {r} {x} e f = go (ltb a 9223372036854775808) refl (sym e ∙ f)
     where
-      go : (b : Bool) → ltb a 9223372036854775808 ≡ b → apart b ≡ Refused x → 9223372036854775808 ≤ a
+      go : (b : Bool) → ltb a 9223372036854775808 ≡ b → apart b ≡ Err x → 9223372036854775808 ≤ a
       go true t h = never (cc)
       go false t h = ltb-false _ _ t

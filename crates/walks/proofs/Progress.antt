@@ -14,8 +14,8 @@ use Rattle.walks.proofs.Lists.{asked_first, walked_long, walked_stop, asked_rest
 use Rattle.walks.proofs.Measure.{areas_in, some_area, each_area}
 
 -- what is read, among what is asked of a walk
-pub with_read : {F A R L : Type 0} → R → F × (A × L) → F × (A × R × L)
-with_read r p = (p.0, (p.1.0, r, p.1.1))
+pub with_read : {F A R : Type 0} → R → F × A → F × (A × R)
+with_read r p = (p.0, (p.1, r))
 
 -- the open splits of a node, from the row that the code has found for it
 pub same_open : (u : List ℕ) (bound q : ℕ) {r i j h m : ℕ} → i ≡ j → h ≡ m → r ≡ open_below u i bound h q → r ≡ open_below u j bound m q
@@ -25,11 +25,15 @@ same_open u bound q e f g = g ∙ ap₂ (λ (x y : ℕ). open_below u x bound y 
 pub same_word : {r s k m : ℕ} → r ≡ s → k ≡ m → word r k ≡ word s m
 same_word e f = rw (e, f)
 
+-- the numbers of a part, of which the code has found the row, and the open splits by the row of a sibling
+pub same_kid : (u : List ℕ) (bound h q : ℕ) {r i s j m : ℕ} → r ≡ i → m ≡ open_below u r bound h q → s ≡ j → word s m ≡ word j (open_below u i bound h q)
+same_kid u bound h q e f g = same_word g (same_open u bound q e refl f)
+
 module _ {A S : Type 0} (way : Way A S) (stands : Kind → Node → Word → Type 0) where
   -- the numbers that the code has found for several nodes, with the measure of their walk
   module _ {ws vs : List Word} (e : ws ≡ vs) where
-    pub same_asked : {u : List ℕ} {c t : ℕ} {P : Type 0} → areas_in vs * 4 + 1 ≡ t → Asked way stands u c vs → P → (areas_in ws * 4 < t) × (Asked way stands u c ws × P)
-    same_asked {u} {c} h a p = (rw e (omega arith), (subst (λ (x : List Word). Asked way stands u c x) (sym e) a, p))
+    pub same_asked : {u : List ℕ} {c t : ℕ} → areas_in vs * 4 + 1 ≡ t → Asked way stands u c vs → (areas_in ws * 4 < t) × Asked way stands u c ws
+    same_asked {u} {c} h a = (rw e (omega arith), subst (λ (x : List Word). Asked way stands u c x) (sym e) a)
 
     pub same_walked : {u : List ℕ} {c : ℕ} {b : List ℕ} {r : ℕ} {z : List ℕ} → Walked way stands u c ws b r z → Walked way stands u c vs b r z
     same_walked {u} {c} {b} {r} {z} w = subst (λ (x : List Word). Walked way stands u c x b r z) e w
@@ -63,9 +67,9 @@ module _ {A S : Type 0} (way : Way A S) (stands : Kind → Node → Word → Typ
       unfolding areas_in
       next_falls some h = let q = p.areas in let a = each_area left in rw e (omega arith)
 
-      -- what the code asks of its walk, with the measure of the walk of one node, and the length of the scratch table
-      pub next_child : 1 ≤ gone + length left → {t : ℕ} → areas_in all * 4 ≡ t → {len : ℕ} → length b ≡ len → (area_in v.row * 4 + 3 < t) × (Asked way stands u at (v ∷ []) × (length so_far ≡ len))
-      next_child some h long = (next_falls some h, (next_asked, p.long ∙ long))
+      -- what the code asks of its walk, with the measure of the walk of one node
+      pub next_child : 1 ≤ gone + length left → {t : ℕ} → areas_in all * 4 ≡ t → (area_in v.row * 4 + 3 < t) × Asked way stands u at (v ∷ [])
+      next_child some h = (next_falls some h, next_asked)
 
       module _ {m : List ℕ} {r : ℕ} (one : Walked way stands u at (v ∷ []) so_far r m) where
         as_found : Walked way stands u at (w ∷ []) so_far r m

@@ -1,15 +1,13 @@
 -- The root of a tree, as the walk of its root needs it: above all cuts, of any QT depth. A call's contract needs none of this.
-use Rattle.std.specs.Prelude.{ℕ, ◌+◌, ◌*◌, ◌≤◌, ◌<◌, ◌≡◌, Bool, true, List}
-use Rattle.settings.specs.declared.Settings.{Settings}
-use Rattle.settings.specs.Units.{unit_count, Gridded}
+use Rattle.std.specs.Prelude.{ℕ, ◌+◌, ◌*◌, ◌≤◌, ◌≡◌, Bool, true, List}
+use Rattle.tree.specs.declared.Limits.{Limits}
 use Rattle.tree.specs.declared.Node.{Node}
-use Rattle.tree.specs.Kind.{Kind}
+use Rattle.tree.specs.Kind.{Kind, luma}
 use Rattle.tree.specs.Splits.{is_out, rights_of, open_splits}
 use Rattle.tree.specs.Children.{corner_inside}
 use Rattle.tree.specs.Rows.{row_of}
 use Rattle.blocks.specs.RowNumbers.{row_word}
-use Rattle.laws.specs.Proper.{Proper}
-use Rattle.unit.specs.Luma.{kind_of, root_at}
+use Rattle.laws.specs.Proper.{Proper, RootSquare}
 use Rattle.nodes.specs.State.{place_of, given_of}
 use Rattle.nodes.specs.Tables.{table_of}
 use Rattle.walks.specs.Stands.{Placed, area_in}
@@ -21,10 +19,15 @@ pub record Rooted (k : Kind) (root : Node) : Type 0 where
   pub here : corner_inside k.limits root ≡ true
   pub uncut : root.mtt ≡ 0
 
--- Settings, with the refusal of the check that they went through, H.266's or H.265's: where they passed, their units are found and their roots walked.
-pub record Checked (refusal : ℕ) (s : Settings) : Type 0 where
-  pub grid : refusal ≡ 0 → Gridded s.ctu s.width s.height
-  pub rooted : refusal ≡ 0 → (a : ℕ) → a < unit_count s → Rooted (kind_of s) (root_at s a)
+-- What the root of a unit is known by, in a struct of the code: it is a square at multiples of its side, its corner lies in a picture of at most 16,384 by 16,384,
+-- and its depth fits. Such a root can be walked (`square_rooted`, `walks/proofs/Roots.antt`).
+pub record UnitRoot (l : Limits) (root : Node) : Type 0 where
+  pub proper : Proper (luma l)
+  pub square : RootSquare l root
+  pub here : corner_inside l root ≡ true
+  pub wide : l.width ≤ 16384
+  pub high : l.height ≤ 16384
+  pub deep : root.w + root.h + root.qt ≤ 256
 
 -- The numbers that the walk of a root is given: the table of its kind, its row, whether it is out of the picture, and its open splits.
 pub record Given (k : Kind) (root : Node) (u : List ℕ) (row : ℕ) (out : Bool) (splits : ℕ) : Type 0 where
