@@ -83,8 +83,8 @@ module _ {bytes u marks : List ℕ} {c row bound splits at : ℕ} (asked : Asked
   few_splits : splits < 32
   few_splits = some_case (back_way bytes) (Inside bound) u c (word row splits) asked (λ k n rows at. let s = splits_small (rights_of k n) in let e = at.stands_for.splits in omega arith)
 
-  pub leaf_room : {len : ℕ} → len ≡ 2048 → (given_of c < 2048) × (place_of c ≤ 8192) × (len ≡ 2048) × (splits < 32)
-  leaf_room l = let r = room.2 in (omega arith, room.1, l, few_splits)
+  pub leaf_room : (given_of c < 2048) × (place_of c ≤ 8192) × (splits < 32)
+  leaf_room = let r = room.2 in (omega arith, room.1, few_splits)
 
   module _ {same : Bool} (tests : Same bytes at row same) where
     -- the own row is next

@@ -34,19 +34,17 @@ fn root_back(
     out: bool,
     splits: u32,
 ) -> u64
-    requires { SomeRoot u.now row out splits × Starts rows.now c row × Read u.now rows.now marks.now × (length flags.old ≡ 2048) }
+    requires { SomeRoot u.now row out splits × Starts rows.now c row × Read u.now rows.now marks.now }
     ensures { (k : Kind) (root : Nodes.Node) → Given k root u.now row out splits → Done (back_way rows.now) (back_node k root (rows_left rows.now (place_of c / 8))) c flags.old result flags.new }
 {
     if out {
         return edge::node_back(u, rows, flags, marks, c, row, nodes::depth_above(u));
     }
     let bound = nodes::bound(u, 0);
-    let next = rows;
-    if same_row(next, nodes::place(c), row) {
+    if same_row(rows, nodes::place(c), row) {
         return inside::leaf(flags, c, splits);
     }
-    let after = rows;
-    inside::node_back(u, after, flags, marks, c, row, bound, splits)
+    inside::node_back(u, rows, flags, marks, c, row, bound, splits)
 }
 
 // The way back of a whole tree, from the numbers of its root: whole rows become flags in a scratch table.

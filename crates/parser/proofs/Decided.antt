@@ -1,22 +1,22 @@
 -- What the flags decide at a node, from what the code of a walk has found: inside the picture by its open splits, out of it by the cut that the edge leaves.
-use Prim.Native.Nat.{ℕ, ◌+◌, ◌<◌, ◌≤◌}
+use Prim.Native.Nat.{ℕ, ◌+◌, ◌≤◌}
 use mathlib.Core.Path.{◌≡◌, refl, sym, ap, subst, ◌∙◌}
 use mathlib.Core.Bool.{Bool, true, false, not, ◌&&◌, ◌||◌, cond}
 use mathlib.Core.List.{List}
 use native.Mathlib.Omega.{arith}
 use lib.ListN.{length, get_or}
 use lib.Dec.{leb, ltb, eqb}
-use borrow.Author.Tests.{eqb-true, eqb-false, leb-true, lt-ltb, le-ltb}
+use borrow.Author.Tests.{eqb-true, eqb-false, leb-true, le-ltb}
 use Rattle.sides.proofs.Bools.{and_left, and_right, or_none_left, or_none_right, same, same_eq, for_five, at_five}
 use Rattle.tree.specs.declared.Direction.{Direction}
 use Rattle.tree.specs.declared.Direction.TheVariants.{Horizontal, Vertical}
 use Rattle.tree.specs.declared.Node.{Node}
 use Rattle.tree.specs.declared.Decision.{Decision}
 use Rattle.tree.specs.declared.Decision.TheVariants.{Leaf}
-use Rattle.tree.specs.declared.Flag.{Flag}
-use Rattle.tree.specs.declared.Flag.TheVariants.{Value, Bad}
-use Rattle.tree.specs.declared.Choice.{Choice}
-use Rattle.tree.specs.declared.Choice.TheVariants.{Chosen, Refused}
+use Rattle.tree.specs.Flags.{Flag}
+use Rattle.tree.specs.Flags.{Value, Bad}
+use Rattle.tree.specs.Flags.{Choice}
+use Rattle.tree.specs.Flags.{Chosen, Refused}
 use Rattle.tree.specs.Kind.{Kind}
 use Rattle.tree.specs.Splits.{Rights, bit, is_out, right_out, bottom_out, rights_of, rights_in, open_splits}
 use Rattle.tree.specs.Flags.{some_open, flag_at, after_binary, after_vertical, after_quad, after_split, decide}
@@ -71,14 +71,6 @@ module _ (flags : List ℕ) (at : ℕ) where
   flag_missing : length flags ≤ at → flag_at true false flags at ≡ Bad 11 (length flags)
   unfolding flag_at
   flag_missing h = rw (le-ltb _ _ h)
-
--- whether the next flag is 0, as the code reads it
-module _ (flags : List ℕ) (c : ℕ) {at : ℕ} (is : at ≡ place_of c) where
-  pub zero_read : at < length flags → eqb (get_or flags at 0) 0 ≡ zero_next flags c
-  zero_read h = subst (λ (p : ℕ). eqb (get_or flags at 0) 0 ≡ (ltb p (length flags) && eqb (get_or flags p 0) 0)) is (rw (lt-ltb at (length flags) h))
-
-  pub zero_past : length flags ≤ at → false ≡ zero_next flags c
-  zero_past h = subst (λ (p : ℕ). false ≡ (ltb p (length flags) && eqb (get_or flags p 0) 0)) is (rw (le-ltb _ _ h))
 
 -- a decision after the split flag is a split
 chosen_is : {d e : Decision} {next m : ℕ} → is_split e ≡ true → Chosen e m ≡ Chosen d next → is_split d ≡ true

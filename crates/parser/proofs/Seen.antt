@@ -10,8 +10,8 @@ use lib.Seq.{take-suc-set}
 use Rattle.tree.specs.declared.Node.{Node}
 use Rattle.tree.specs.declared.Decision.{Decision}
 use Rattle.tree.specs.declared.Decision.TheVariants.{Leaf}
-use Rattle.tree.specs.declared.Choice.{Choice}
-use Rattle.tree.specs.declared.Choice.TheVariants.{Chosen, Refused}
+use Rattle.tree.specs.Flags.{Choice}
+use Rattle.tree.specs.Flags.{Chosen, Refused}
 use Rattle.tree.specs.Kind.{Kind}
 use Rattle.tree.specs.Splits.{rights_of}
 use Rattle.tree.specs.Flags.{decide}

@@ -1,4 +1,7 @@
 // The reading of nodes that are out of the picture at the right or at the bottom, and of their children.
+// Stays: a walk answers one number: as `Result<u64, u64>`, which comes back in two registers, it takes 6 to 8 % more instructions.
+// Stays: its twin in crate back is no other instance of one walk: the check has no proof of a cycle through a trait's method ("a method of the block leads back to this function").
+// Stays: the table of rows is an argument and no field: each contract would have to say that the other fields stay, which is no plainer.
 ghost use Rattle.std.specs.Prelude.{◌≡◌, true, [], ◌∷◌, length};
 ghost use Rattle.tree.specs.Splits.{is_out};
 ghost use Rattle.tree.specs.Children.{corner_inside};
@@ -9,150 +12,124 @@ ghost use Rattle.walks.specs.Kids.{four_words, outer_kids};
 ghost use Rattle.walks.specs.Walks.{Asked, Walked};
 ghost use Rattle.parser.specs.Walking.{read_way};
 
-use crate::inside;
-use crate::scratch::Scratch;
-use nodes::{Child, Table, child_answer};
-use tree::{Choice, Decision};
+use crate::reading::{Reading, Scratch};
+use nodes::child_answer;
+use tree::Decision;
 
-// A child of a node that is out; one whose corner is outside the picture is skipped.
-#[cycle(child_walk_children_walk_four_walk_node_walk_pair_walk)]
-pub(crate) fn child_walk(
-    u: &Table,
-    flags: &[u8],
-    rows: &mut Scratch,
-    c: u64,
-    row: u64,
-    depths: u32,
-) -> u64
-    requires { Asked (read_way flags.now) Outer u.now c (word row depths ∷ []) × (length rows.old ≡ 1024) }
-    ensures { Walked (read_way flags.now) Outer u.now c (word row depths ∷ []) rows.old result rows.new }
-{
-    if !nodes::begins_inside(u, row) {
-        return c;
+impl<'a> Reading<'a> {
+    // A child of a node that is out; one whose corner is outside the picture is skipped.
+    #[cycle(at_edge)]
+    pub(crate) fn child_at_edge(&self, rows: &mut Scratch, c: u64, row: u64, depths: u32) -> u64
+        requires { Asked (read_way self.now.flags.now) Outer self.now.u.now c (word row depths ∷ []) }
+        ensures { Walked (read_way self.now.flags.now) Outer self.now.u.now c (word row depths ∷ []) rows.old result rows.new }
+    {
+        if !nodes::begins_inside(self.u, row) {
+            return c;
+        }
+        if nodes::right_out_at(self.u, row) | nodes::bottom_out_at(self.u, row) {
+            return self.node_at_edge(rows, c, row, depths);
+        }
+        let splits = nodes::inner_splits(self.u, row, depths);
+        self.child_walk(rows, c, row, nodes::bound(self.u, depths), splits)
     }
-    let after = flags;
-    if nodes::right_out_at(u, row) | nodes::bottom_out_at(u, row) {
-        return node_walk(u, after, rows, c, row, depths);
-    }
-    let ahead = flags;
-    let splits = nodes::inner_splits(u, row, depths);
-    inside::child_walk(u, ahead, rows, c, row, nodes::bound(u, depths), splits)
-}
 
-// A node that is out: it is split.
-#[cycle(child_walk_children_walk_four_walk_node_walk_pair_walk)]
-pub(crate) fn node_walk(
-    u: &Table,
-    flags: &[u8],
-    rows: &mut Scratch,
-    c: u64,
-    row: u64,
-    depths: u32,
-) -> u64
-    requires { Asked (read_way flags.now) Outer u.now c (word row depths ∷ []) × (corner_inside (limits_in u.now) (node_in row) ≡ true) × (is_out (limits_in u.now) (node_in row) ≡ true) × (length rows.old ≡ 1024) }
-    ensures { Walked (read_way flags.now) Outer u.now c (word row depths ∷ []) rows.old result rows.new }
-{
-    let right = nodes::right_out_at(u, row);
-    let bottom = nodes::bottom_out_at(u, row);
-    let splits = nodes::out_splits(u, row, depths, right, bottom);
-    let ahead = flags;
-    match flags::decide_out(ahead, nodes::place(c), splits) {
-        Choice::Refused(number, place) => nodes::refusal(number, place),
-        Choice::Chosen(decision, next) => {
-            let after = flags;
-            let c1 = nodes::moved_to(c, next);
-            children_walk(u, after, rows, c1, row, depths, decision)
+    // A node that is out: it is split.
+    #[cycle(at_edge)]
+    pub(crate) fn node_at_edge(&self, rows: &mut Scratch, c: u64, row: u64, depths: u32) -> u64
+        requires { Asked (read_way self.now.flags.now) Outer self.now.u.now c (word row depths ∷ []) × (corner_inside (limits_in self.now.u.now) (node_in row) ≡ true) × (is_out (limits_in self.now.u.now) (node_in row) ≡ true) }
+        ensures { Walked (read_way self.now.flags.now) Outer self.now.u.now c (word row depths ∷ []) rows.old result rows.new }
+    {
+        let right = nodes::right_out_at(self.u, row);
+        let bottom = nodes::bottom_out_at(self.u, row);
+        let splits = nodes::out_splits(self.u, row, depths, right, bottom);
+        match flags::decide_out(self.flags, nodes::place(c), splits) {
+            Err(r) => nodes::refusal(r.reason, r.place),
+            Ok((decision, next)) => {
+                let c1 = nodes::moved_to(c, next);
+                self.children_at_edge(rows, c1, row, depths, decision)
+            }
         }
     }
-}
 
-// The children of a node that is out, where no ternary split is open.
-#[cycle(child_walk_children_walk_four_walk_node_walk_pair_walk)]
-pub(crate) fn children_walk(
-    u: &Table,
-    flags: &[u8],
-    rows: &mut Scratch,
-    c: u64,
-    row: u64,
-    depths: u32,
-    d: Decision,
-) -> u64
-    requires { Asked (read_way flags.now) Outer u.now c (outer_kids u.now row depths d) × (length rows.old ≡ 1024) }
-    ensures { Walked (read_way flags.now) Outer u.now c (outer_kids u.now row depths d) rows.old result rows.new }
-{
-    match d {
-        Decision::Leaf => c,
-        Decision::Quad => {
-            let k = nodes::depth_above(u);
-            four_walk(u, flags, rows, c, row, k)
+    // The children of a node that is out, where no ternary split is open.
+    #[cycle(at_edge)]
+    pub(crate) fn children_at_edge(
+        &self,
+        rows: &mut Scratch,
+        c: u64,
+        row: u64,
+        depths: u32,
+        d: Decision,
+    ) -> u64
+        requires { Asked (read_way self.now.flags.now) Outer self.now.u.now c (outer_kids self.now.u.now row depths d) }
+        ensures { Walked (read_way self.now.flags.now) Outer self.now.u.now c (outer_kids self.now.u.now row depths d) rows.old result rows.new }
+    {
+        match d {
+            Decision::Leaf => c,
+            Decision::Quad => {
+                let k = nodes::depth_above(self.u);
+                self.four_at_edge(rows, c, row, k)
+            }
+            Decision::Binary(v) => {
+                let k = nodes::depth_below(self.u, row, depths);
+                let row0 = nodes::first_half(row, v);
+                let row1 = nodes::second_half(row, v);
+                self.pair_at_edge(rows, c, row0, row1, k)
+            }
+            Decision::Ternary(_) => c,
         }
-        Decision::Binary(v) => {
-            let k = nodes::depth_below(u, row, depths);
-            let row0 = nodes::first_half(row, v);
-            let row1 = nodes::second_half(row, v);
-            pair_walk(u, flags, rows, c, row0, row1, k)
-        }
-        Decision::Ternary(_) => c,
     }
-}
 
-// The four children of a quad split.
-#[cycle(child_walk_children_walk_four_walk_node_walk_pair_walk)]
-pub(crate) fn four_walk(
-    u: &Table,
-    flags: &[u8],
-    rows: &mut Scratch,
-    c: u64,
-    row: u64,
-    depths: u32,
-) -> u64
-    requires { Asked (read_way flags.now) Outer u.now c (four_words row depths) × (length rows.old ≡ 1024) }
-    ensures { Walked (read_way flags.now) Outer u.now c (four_words row depths) rows.old result rows.new }
-{
-    let row0 = nodes::child_row(row, Decision::Quad, 0);
-    let first = child_walk(u, flags, rows, c, row0, depths);
-    let Child::Walked(c1) = child_answer(first) else {
-        return first;
-    };
-    let row1 = nodes::child_row(row, Decision::Quad, 1);
-    let second = child_walk(u, flags, rows, c1, row1, depths);
-    let Child::Walked(c2) = child_answer(second) else {
-        return second;
-    };
-    let row2 = nodes::child_row(row, Decision::Quad, 2);
-    let third = child_walk(u, flags, rows, c2, row2, depths);
-    let Child::Walked(c3) = child_answer(third) else {
-        return third;
-    };
-    let row3 = nodes::child_row(row, Decision::Quad, 3);
-    let fourth = child_walk(u, flags, rows, c3, row3, depths);
-    let Child::Walked(c4) = child_answer(fourth) else {
-        return fourth;
-    };
-    c4
-}
+    // The four children of a quad split.
+    #[cycle(at_edge)]
+    pub(crate) fn four_at_edge(&self, rows: &mut Scratch, c: u64, row: u64, depths: u32) -> u64
+        requires { Asked (read_way self.now.flags.now) Outer self.now.u.now c (four_words row depths) }
+        ensures { Walked (read_way self.now.flags.now) Outer self.now.u.now c (four_words row depths) rows.old result rows.new }
+    {
+        let row0 = nodes::child_row(row, Decision::Quad, 0);
+        let first = self.child_at_edge(rows, c, row0, depths);
+        let Ok(c1) = child_answer(first) else {
+            return first;
+        };
+        let row1 = nodes::child_row(row, Decision::Quad, 1);
+        let second = self.child_at_edge(rows, c1, row1, depths);
+        let Ok(c2) = child_answer(second) else {
+            return second;
+        };
+        let row2 = nodes::child_row(row, Decision::Quad, 2);
+        let third = self.child_at_edge(rows, c2, row2, depths);
+        let Ok(c3) = child_answer(third) else {
+            return third;
+        };
+        let row3 = nodes::child_row(row, Decision::Quad, 3);
+        let fourth = self.child_at_edge(rows, c3, row3, depths);
+        let Ok(c4) = child_answer(fourth) else {
+            return fourth;
+        };
+        c4
+    }
 
-// The two parts of a binary split.
-#[cycle(child_walk_children_walk_four_walk_node_walk_pair_walk)]
-pub(crate) fn pair_walk(
-    u: &Table,
-    flags: &[u8],
-    rows: &mut Scratch,
-    c: u64,
-    row0: u64,
-    row1: u64,
-    depths: u32,
-) -> u64
-    requires { Asked (read_way flags.now) Outer u.now c (word row0 depths ∷ word row1 depths ∷ []) × (length rows.old ≡ 1024) }
-    ensures { Walked (read_way flags.now) Outer u.now c (word row0 depths ∷ word row1 depths ∷ []) rows.old result rows.new }
-{
-    let first = child_walk(u, flags, rows, c, row0, depths);
-    let Child::Walked(c1) = child_answer(first) else {
-        return first;
-    };
-    let second = child_walk(u, flags, rows, c1, row1, depths);
-    let Child::Walked(c2) = child_answer(second) else {
-        return second;
-    };
-    c2
+    // The two parts of a binary split.
+    #[cycle(at_edge)]
+    pub(crate) fn pair_at_edge(
+        &self,
+        rows: &mut Scratch,
+        c: u64,
+        row0: u64,
+        row1: u64,
+        depths: u32,
+    ) -> u64
+        requires { Asked (read_way self.now.flags.now) Outer self.now.u.now c (word row0 depths ∷ word row1 depths ∷ []) }
+        ensures { Walked (read_way self.now.flags.now) Outer self.now.u.now c (word row0 depths ∷ word row1 depths ∷ []) rows.old result rows.new }
+    {
+        let first = self.child_at_edge(rows, c, row0, depths);
+        let Ok(c1) = child_answer(first) else {
+            return first;
+        };
+        let second = self.child_at_edge(rows, c1, row1, depths);
+        let Ok(c2) = child_answer(second) else {
+            return second;
+        };
+        c2
+    }
 }

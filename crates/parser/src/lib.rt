@@ -3,7 +3,7 @@
 
 mod edge;
 mod inside;
-mod scratch;
+mod reading;
 
 ghost use Rattle.std.specs.Prelude.{◌≡◌, false, length};
 ghost use Rattle.tree.specs.Kind.{Kind};
@@ -15,7 +15,8 @@ ghost use Rattle.walks.specs.Walks.{Done};
 ghost use Rattle.parser.specs.Walking.{read_way, leaf_next};
 
 use nodes::Table;
-pub use scratch::Scratch;
+use reading::Reading;
+pub use reading::Scratch;
 
 // The walk of a root that is no leaf, from any place of the flags that leaves its own below 2^31. One that is out is above all cuts, as a child of a
 // quad split is.
@@ -31,8 +32,9 @@ pub fn root_walk(
     requires { SomeRoot u.now row out splits × RoomFor (read_way flags.now) c row × (leaf_next out splits flags.now c ≡ false) × (length rows.old ≡ 1024) }
     ensures { (k : Kind) (root : Nodes.Node) → Given k root u.now row out splits → Done (read_way flags.now) (read_node k flags.now root (place_of c)) c rows.old result rows.new }
 {
+    let reading = Reading { u, flags };
     if out {
-        return edge::node_walk(u, flags, rows, c, row, nodes::depth_above(u));
+        return reading.node_at_edge(rows, c, row, nodes::depth_above(u));
     }
-    inside::node_walk(u, flags, rows, c, row, nodes::bound(u, 0), splits)
+    reading.node_walk(rows, c, row, nodes::bound(u, 0), splits)
 }

@@ -12,6 +12,7 @@ ghost use Rattle.tree.specs.Rows.{rows_in};
 ghost use Rattle.tree.specs.Search.{stuck, fit_node};
 ghost use Rattle.walks.specs.Rooted.{Given, SomeRoot};
 
+use node::Search;
 use nodes::Table;
 
 // The most leading rows with which some tree's table begins, of a root, by its numbers; whole rows that begin with no
@@ -24,6 +25,7 @@ pub fn leading_rows(u: &Table, rows: &[u8], row: u64, out: bool, splits: u32) ->
         return 0;
     }
     let depths = nodes::depth_above(u);
-    let answer = node::node_search(u, rows, 0, row, depths, out, splits);
+    let search = Search { u, rows };
+    let answer = search.node_search(0, row, depths, out, splits);
     nodes::refusal_place(answer)
 }

@@ -1,5 +1,5 @@
-// The parts of a decision, one by one, and the better of two answers.
-ghost use Rattle.std.specs.Prelude.{◌≡◌, max, ◌≤◌, ◌<◌, length};
+// The parts of a decision, one by one.
+ghost use Rattle.std.specs.Prelude.{◌≡◌, ◌≤◌, ◌<◌, length};
 ghost use Rattle.tree.specs.Children.{shares};
 ghost use Rattle.nodes.specs.RowNodes.{cuts_of};
 ghost use Rattle.search.specs.Walking.{left_to};
@@ -8,6 +8,7 @@ use nodes::Table;
 use tree::{CUTS, Decision, Direction};
 
 // How many parts a decision has.
+#[tactic(auto, unfolding(tree::specs::Children::shares))]
 pub(crate) fn parts(d: Decision) -> u32
     ensures { (result ≡ length (shares d)) × (result ≤ 4) }
 {
@@ -30,6 +31,7 @@ fn part_cuts(v: Direction, i: u32) -> u32
 }
 
 // What the depths leave to the part with a number, of a node that is out of the picture or inside.
+#[tactic(auto, unfolding(crate::specs::Walking::left_to))]
 pub(crate) fn left_to(u: &Table, row: u64, depths: u32, out: bool, d: Decision, i: u32) -> u32
     ensures { result ≡ left_to u.now row depths out d i }
 {
@@ -45,11 +47,4 @@ pub(crate) fn left_to(u: &Table, row: u64, depths: u32, out: bool, d: Decision, 
         }
         Decision::Ternary(v) => nodes::depth_beside(u, row, depths, part_cuts(v, i)),
     }
-}
-
-// Of two refusals, the one with the greater place.
-pub(crate) fn farther(a: u64, b: u64) -> u64
-    ensures { result ≡ max a b }
-{
-    if a < b { b } else { a }
 }

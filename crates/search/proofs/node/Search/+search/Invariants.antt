@@ -1,7 +1,7 @@
 use Rattle.std.proofs.Common.{◌+◌, ◌-◌, ◌*◌, length}
 use Rattle.tree.specs.Children.{shares}
 use Rattle.walks.specs.Stands.{area_in}
-use Rattle.search.proofs.node.+child_search_cut_search_node_search_parts_search_split_search.Given as goal
+use Rattle.search.proofs.node.Search.+search.Given as goal
 
 -- the area of the node; the parts of one are smaller
 abbrev pub decreases-child_search : goal.decreases-child_search

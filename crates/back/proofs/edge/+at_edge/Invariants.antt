@@ -2,7 +2,7 @@ use Rattle.std.proofs.Common.{◌+◌, ◌*◌, [], ◌∷◌}
 use Rattle.walks.specs.Stands.{word, area_in}
 use Rattle.walks.specs.Kids.{four_words, outer_kids}
 use Rattle.walks.proofs.Measure.{areas_in}
-use Rattle.back.proofs.edge.+child_back_children_back_four_back_node_back_pair_back.Given as goal
+use Rattle.back.proofs.edge.+at_edge.Given as goal
 
 abbrev pub decreases-child_back : goal.decreases-child_back
 decreases-child_back l = area_in l.row * 4 + 3

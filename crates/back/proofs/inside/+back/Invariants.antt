@@ -3,7 +3,7 @@ use Rattle.tree.specs.declared.Decision.TheVariants.{Quad, Binary, Ternary}
 use Rattle.walks.specs.Stands.{area_in}
 use Rattle.walks.specs.Kids.{inner_kids}
 use Rattle.walks.proofs.Measure.{areas_in}
-use Rattle.back.proofs.inside.+child_back_children_back_four_back_node_back_three_back_two_back.Given as goal
+use Rattle.back.proofs.inside.+back.Given as goal
 
 abbrev pub decreases-child_back : goal.decreases-child_back
 decreases-child_back l = area_in l.row * 4 + 3

@@ -1,8 +1,4 @@
-use Prim.Native.Nat.{ℕ}
-use mathlib.Core.Path.{◌≡◌}
-use mathlib.Core.Bool.{Bool, false}
-use mathlib.Core.List.{List, [], ◌∷◌}
-use borrow.Author.Rules.{rules}
+use Rattle.std.proofs.Common.{ℕ, Bool, false, List, [], ◌∷◌, ◌≡◌}
 use Rattle.walks.specs.Rooted.{SomeRoot}
 use Rattle.walks.specs.Stands.{word, Inside}
 use Rattle.walks.specs.Walks.{Asked}
@@ -11,49 +7,41 @@ use Rattle.nodes.specs.RowNodes.{bound_in}
 use Rattle.back.specs.Walking.{Starts, back_way}
 use Rattle.back.proofs.Steps.{at_row, leaf_room, walked_own, not_own}
 use Rattle.back.proofs.Whole.{starts_left}
-use Rattle.back.proofs.root_back.Statement.{statement}
-use Rattle.back.proofs.root_back.Tie as tie
+use Rattle.back.proofs.root_back.Goals as goal
 
 -- a root inside the picture
 asked_in : {rows u : List ℕ} {c row : ℕ} {out : Bool} {splits bound : ℕ} → Starts rows c row → SomeRoot u row out splits → out ≡ false → bound ≡ bound_in u 0 → Asked (back_way rows) (Inside bound) u c (word row splits ∷ [])
 asked_in {rows} {c = c} s some within is = in_asked (back_way rows) _ c (starts_left s) s.room within is some
 
-node_back-requires : tie.Need-node_back-requires
-node_back-requires c κs =
+pub node_back-requires : goal.node_back-requires
+node_back-requires c =
     let some = c.requires.0 in
     let s = c.requires.1 in
-    (out_asked (back_way c.args.rows.now) _ c.args.c (starts_left s) s.room c.if-out.true c.depth_above.ensures some, c.requires.2, c.requires.3, root_begins some.given, root_out some.given c.if-out.true)
+    (out_asked (back_way c.args.rows.now) _ c.args.c (starts_left s) s.room c.if-out.true c.depth_above.ensures some, c.requires.2, root_begins some.given, root_out some.given c.if-out.true)
 
-returns-then-out : tie.Need-returns-then-out
+pub returns-then-out : goal.returns-then-out
 returns-then-out c =
     let s = c.requires.1 in
     out_done (back_way c.args.rows.now) _ c.args.c (starts_left s) s.room c.if-out.true c.depth_above.ensures c.node_back.ensures
 
-same_row-requires : tie.Need-same_row-requires
-same_row-requires c κs =
-    at_row (asked_in c.requires.1 c.requires.0 c.if-out.false c.bound-bound.ensures) c.requires.2 c.place.ensures.0
+pub same_row-requires : goal.same_row-requires
+same_row-requires c = at_row (asked_in c.requires.1 c.requires.0 c.if-out.false c.bound-bound.ensures) c.requires.2 c.place.ensures.0
 
-leaf-requires : tie.Need-leaf-requires
-leaf-requires c κs =
-    leaf_room (asked_in c.requires.1 c.requires.0 c.if-out.false c.bound-bound.ensures) c.requires.2 c.place.ensures.0 c.requires.3
+pub leaf-requires : goal.leaf-requires
+leaf-requires c = leaf_room (asked_in c.requires.1 c.requires.0 c.if-out.false c.bound-bound.ensures) c.requires.2 c.place.ensures.0
 
-returns-then-same_row : tie.Need-returns-then-same_row
+pub returns-then-same_row : goal.returns-then-same_row
 returns-then-same_row c =
     let s = c.requires.1 in
     let own = walked_own (asked_in s c.requires.0 c.if-out.false c.bound-bound.ensures) c.requires.2 c.place.ensures.0 c.same_row.ensures c.if-same_row.true c.leaf.ensures in
     in_done (back_way c.args.rows.now) _ c.args.c (starts_left s) s.room c.if-out.false c.bound-bound.ensures own
 
-node_back-requires-2 : tie.Need-node_back-requires-2
-node_back-requires-2 c κs =
+pub node_back-requires-2 : goal.node_back-requires-2
+node_back-requires-2 c =
     let asked = asked_in c.requires.1 c.requires.0 c.if-out.false c.bound-bound.ensures in
-    (asked, c.requires.2, c.requires.3, not_own asked c.requires.2 c.place.ensures.0 c.same_row.ensures c.if-same_row.false)
+    (asked, c.requires.2, not_own asked c.requires.2 c.place.ensures.0 c.same_row.ensures c.if-same_row.false)
 
-returns : tie.Need-returns
+pub returns : goal.returns
 returns c =
     let s = c.requires.1 in
     in_done (back_way c.args.rows.now) _ c.args.c (starts_left s) s.room c.if-out.false c.bound-bound.ensures c.node_back-2.ensures
-
-pub root_back_spec : {M : Type 1} → statement M
-root_back_spec =
-    tie.close
-    (tie.spec (λ c κs. search rules) node_back-requires returns-then-out (λ c κs. search rules) (λ c κs. search rules) same_row-requires leaf-requires returns-then-same_row node_back-requires-2 returns)
