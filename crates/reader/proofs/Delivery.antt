@@ -9,15 +9,15 @@ use lib.ListN.{length, get_or, take, drop}
 use borrow.Author.Tests.{lt-ltb, le-ltb, eqb-true}
 use Rattle.sides.proofs.Bools.{clash, and_left, and_right}
 use Rattle.tree.specs.declared.Decision.TheVariants.{Leaf}
-use Rattle.tree.specs.declared.Flag.TheVariants.{Value}
-use Rattle.tree.specs.declared.Choice.TheVariants.{Chosen}
+use Rattle.tree.specs.Flags.{Value}
+use Rattle.tree.specs.Flags.{Chosen}
 use Rattle.tree.specs.Rows.{Row, table_bytes}
 use Rattle.tree.specs.Run.{Run, End, goes, stops}
 use Rattle.tree.specs.Splits.{Rights, bit, open_splits}
 use Rattle.tree.specs.Flags.{some_open, flag_at, after_split, decide}
 use Rattle.blocks.specs.RowNumbers.{words_bytes}
 use Rattle.blocks.proofs.RowNumbers.{word_bytes_lem}
-use Rattle.unit.specs.declared.Answer.TheVariants.{Accepted}
+use Rattle.refusals.specs.Said.{Accepted}
 use Rattle.unit.specs.Answers.{refused, deliver, finish_end, finish}
 use Rattle.unit.specs.Reader.{none_after}
 use Rattle.unit.proofs.Parsed.{table_length}
@@ -37,7 +37,7 @@ rows_bytes (r ∷ rows) = ap₂ (λ (a b : List ℕ). a ++ b) (word_bytes_lem r)
 -- ---- the number of an end, from the first row on
 
 module _ (flags : List ℕ) (run : Run Row ℕ) {b z : List ℕ} {answer : ℕ} (done : Done (read_way flags) run 0 b answer z) (few : 16 * length run.given ≤ 16384) where
-  said_from : (end : End ℕ) → run.end ≡ end → Says (read_way flags) answer (length run.given) end
+  pub said_from : (end : End ℕ) → run.end ≡ end → Says (read_way flags) answer (length run.given) end
   said_from end e = subst (λ x. Says (read_way flags) answer (length run.given) x) e (subst (λ (i : ℕ). Says (read_way flags) answer i run.end) (omega arith) done.said)
 
   -- the rows so far, where the walk was not refused

@@ -3,23 +3,20 @@ use Prim.Native.Nat.{ℕ, ◌*◌, ◌≤◌, ◌<◌}
 use mathlib.Core.Path.{◌≡◌, refl, sym, ap, ◌∙◌, subst}
 use mathlib.Core.Bool.{Bool, true, false, cond}
 use mathlib.Core.List.{List, ◌++◌}
-use native.Mathlib.Omega.{arith}
 use lib.Dec.{ltb}
 use lib.ListN.{length, take, drop}
 use lib.Seq.{sets, sets-eq}
 use borrow.Author.Tests.{lt-ltb, le-ltb, ltb-true, leb-true, leb-false}
-use denote.Enum
+use Rattle.std.specs.Prelude.{Result, Ok, Err}
 use Rattle.tree.specs.declared.Node.{Node}
 use Rattle.tree.specs.Rows.{row_of, row_bytes, table_bytes}
 use Rattle.blocks.specs.RowNumbers.{row_word, word_bytes, words_bytes, put_word, Put}
 use Rattle.blocks.proofs.RowNumbers.{word_bytes_lem}
-use Rattle.unit.specs.declared.Answer.TheVariants.{Accepted, Refused}
+use Rattle.refusals.specs.Said.{Accepted, Refused}
 use Rattle.unit.specs.Answers.{Meets, deliver, finish_end}
 use Rattle.unit.specs.Reader.{none_after}
-use Rattle.nodes.specs.declared.state.Child.{Child}
-use Rattle.nodes.specs.declared.state.Child.TheVariants as child
-use Rattle.nodes.specs.contracts.state.Child as C
 use Rattle.nodes.specs.State.{place_of, given_of, refusal_number, refusal_place}
+use Rattle.walks.proofs.Apart.{was_walked, was_refused}
 use Rattle.reader.specs.Delivery.{deliver_one, deliver_all}
 
 -- ---- a root that is a leaf
@@ -48,30 +45,15 @@ module _ (root : Node) (next : ℕ) (flags b : List ℕ) where
 
 -- ---- the number that a walk answers
 
--- taken apart by a test
-read_only : (t : Bool) (answer end : ℕ) → cond t (child.Walked answer) (child.Refused answer) ≡ child.Walked end → (t ≡ true) × (end ≡ answer)
-read_only true answer end e = (refl, sym (ap inside e))
-  where
-    inside : Child → ℕ
-    inside (child.Walked c) = c
-    inside (child.Refused c) = c
-read_only false answer end e = let f = ap (denote.Enum.Declared.tag_of C.the_type) e in absurd (omega arith)
-
-refused_only : (t : Bool) (answer : ℕ) → denote.Enum.Declared.tag_of C.the_type (cond t (child.Walked answer) (child.Refused answer)) ≡ 1 → t ≡ false
-refused_only true answer e = absurd (omega arith)
-refused_only false answer e = refl
-
-module _ (answer : ℕ) (w : Child) (apart : w ≡ cond (ltb answer 9223372036854775808) (child.Walked answer) (child.Refused answer)) (scratch flags b : List ℕ) where
-  pub all_stop : denote.Enum.Declared.tag_of C.the_type w ≡ 1 → (number place : ℕ) → number ≡ refusal_number answer → place ≡ refusal_place answer
+module _ (answer : ℕ) (w : Result ℕ ℕ) (apart : w ≡ cond (ltb answer 9223372036854775808) (Ok answer) (Err answer)) (scratch flags b : List ℕ) where
+  pub all_stop : (place : ℕ) → w ≡ Err place → (number place : ℕ) → number ≡ refusal_number answer → place ≡ refusal_place answer
       → Meets (deliver_all answer scratch flags b) (Refused number place) b
   unfolding deliver_all
-  all_stop tag number place e f =
-      let h = refused_only (ltb answer 9223372036854775808) answer (sym (ap (denote.Enum.Declared.tag_of C.the_type) apart) ∙ tag) in
-      rw (h, e, f) (record { answers = refl; leaves = refl })
+  all_stop _ is number place e f = rw (le-ltb _ _ (was_refused answer apart is), e, f) (record { answers = refl; leaves = refl })
 
-  module _ (end : ℕ) (read : w ≡ child.Walked end) where
+  module _ (end : ℕ) (read : w ≡ Ok end) where
     read_is : (ltb answer 9223372036854775808 ≡ true) × (end ≡ answer)
-    read_is = read_only (ltb answer 9223372036854775808) answer end (sym apart ∙ read)
+    read_is = let on = was_walked answer apart read in (lt-ltb _ _ on.1, on.0)
 
     module _ (at : ℕ) (at-is : at ≡ place_of end) where
       at_place : place_of answer ≡ at

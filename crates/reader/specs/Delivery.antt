@@ -5,7 +5,7 @@ use Rattle.tree.specs.Splits.{bit}
 use Rattle.tree.specs.Rows.{row_of, table_bytes}
 use Rattle.tree.specs.Run.{goes}
 use Rattle.blocks.specs.RowNumbers.{words_bytes}
-use Rattle.unit.specs.declared.Answer.TheVariants.{Accepted}
+use Rattle.refusals.specs.Said.{Accepted}
 use Rattle.unit.specs.Answers.{Outcome, refused, finish}
 use Rattle.unit.specs.Reader.{none_after}
 use Rattle.nodes.specs.State.{place_of, given_of, refusal_number, refusal_place}

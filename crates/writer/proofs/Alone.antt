@@ -24,18 +24,22 @@ use Rattle.laws.proofs.Runs.{gives}
 use Rattle.laws.proofs.SameRow.{same_row}
 use Rattle.laws.proofs.Searching.{search_is_tree}
 use Rattle.laws.proofs.Turning.{turning_is_tree}
-use Rattle.unit.specs.declared.Answer.{Answer}
-use Rattle.unit.specs.declared.Answer.TheVariants.{Accepted}
+use Rattle.unit.specs.Answers.{Answer}
+use Rattle.refusals.specs.Said.{Accepted}
 use Rattle.unit.specs.Answers.{Meets, finish_end, answer_of}
 use Rattle.unit.specs.Writer.{flags_from, test_rows, write_rows}
 use Rattle.unit.proofs.TreeTurning.{tree_turned}
-use Rattle.walks.specs.Rooted.{Rooted}
+use Rattle.walks.specs.Rooted.{Rooted, UnitRoot}
+use Rattle.walks.proofs.UnitRoots.{rooted}
 use Rattle.walks.proofs.RowFields.{fits}
 use Rattle.marks.specs.Table.{Same}
 use Rattle.writer.specs.Delivery.{leaf_alone, leaf_flags, deliver_leaf}
 use Rattle.marks.proofs.RowWords.{word_tests}
 
-module _ {l : Limits} {root : Node} (r : Rooted (luma l) root) where
+module _ {l : Limits} {root : Node} (u : UnitRoot l root) where
+  r : Rooted (luma l) root
+  r = rooted u
+
   -- the test of the code, by the root's number
   pub own_row : {bytes : List ℕ} → length bytes ≡ 8 → {row : ℕ} {same : Bool} → Same bytes 0 row same → row ≡ row_word (row_of root) → same ≡ is_same_row (row_at bytes 0) (row_of root)
   own_row {bytes} len s e =
@@ -76,8 +80,8 @@ module _ {l : Limits} {root : Node} (r : Rooted (luma l) root) where
     leaf_delivered buffer m = rw alone_is m
 
 -- above MinQt the flags of a leaf are those of a root with QT alone
-pub quad_leaf : {l : Limits} {root : Node} → Rooted (luma l) root → l.minqt < root.w → leaf_flags 1 ≡ leaf_flags (open_splits (rights_of (luma l) root))
+pub quad_leaf : {l : Limits} {root : Node} → UnitRoot l root → l.minqt < root.w → leaf_flags 1 ≡ leaf_flags (open_splits (rights_of (luma l) root))
 unfolding flags_for rights_of
-quad_leaf {l} {root} r h =
-    let q : has (open_splits (rights_of (luma l) root)) 1 ≡ true = ap (λ (x : Rights). x.quad) (rights_back (rights_of (luma l) root)) ∙ rw (r.uncut, lt-ltb _ _ h) in
+quad_leaf {l} {root} u h =
+    let q : has (open_splits (rights_of (luma l) root)) 1 ≡ true = ap (λ (x : Rights). x.quad) (rights_back (rights_of (luma l) root)) ∙ rw (u.square.uncut, lt-ltb _ _ h) in
     rw q

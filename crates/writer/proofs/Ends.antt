@@ -6,25 +6,23 @@ use mathlib.Core.List.{List, [], ◌∷◌}
 use native.Mathlib.Omega.{arith}
 use lib.ListN.{length, set}
 use lib.Seq.{sets-eq}
+use mir.Val.{bool_byte}
 use borrow.Author.Tests.{lt-ltb, le-ltb, not-true, not-false}
 use Rattle.tree.specs.Splits.{rights_in}
 use Rattle.tree.specs.Flags.{some_open, flags_for}
 use Rattle.blocks.specs.Copies.{copied}
 use Rattle.blocks.proofs.Pastes.{copied_all}
-use Rattle.unit.specs.declared.Answer.TheVariants.{Accepted, Refused}
+use Rattle.refusals.specs.Said.{Accepted, Refused}
 use Rattle.unit.specs.Answers.{Meets, deliver}
 use Rattle.writer.specs.Delivery.{leaf_flags, deliver_leaf, deliver_flags}
 
 -- ---- a root that is a leaf
 
-module _ (splits : ℕ) {some : Bool} (e : some ≡ some_open (rights_in false splits)) where
-  pub leaf_one : some ≡ true → 1 ≡ length (leaf_flags splits)
-  unfolding flags_for
-  leaf_one h = rw (← e, h)
-
-  pub leaf_zero : some ≡ false → 0 ≡ length (leaf_flags splits)
-  unfolding flags_for
-  leaf_zero h = rw (← e, h)
+-- the number of its flags
+pub leaf_long : (splits : ℕ) (some : Bool) → some ≡ some_open (rights_in false splits) → bool_byte some ≡ length (leaf_flags splits)
+unfolding flags_for
+leaf_long splits true e = rw (← e)
+leaf_long splits false e = rw (← e)
 
 module _ (splits : ℕ) {some : Bool} (e : some ≡ some_open (rights_in false splits)) (b : List ℕ) where
   pub leaf_none : not some ≡ true → Meets (deliver_leaf splits b) (Accepted 0) b

@@ -19,14 +19,15 @@ use Rattle.laws.proofs.BackBounds.{back_bound}
 use Rattle.laws.proofs.Searching.{SearchIsTree, search_is_tree}
 use Rattle.laws.proofs.Tables.{rows_long}
 use Rattle.laws.proofs.Turning.{TurningIsTree, turning_is_tree}
-use Rattle.unit.specs.declared.Answer.{Answer}
-use Rattle.unit.specs.declared.Answer.TheVariants.{Accepted, Refused}
+use Rattle.unit.specs.Answers.{Answer}
+use Rattle.refusals.specs.Said.{Accepted, Refused}
 use Rattle.unit.specs.Answers.{Meets, deliver, finish_end, end_answer, answer_of}
 use Rattle.unit.specs.Writer.{fit_end, flags_from, test_rows, write_rows}
 use Rattle.unit.proofs.Accepts.{answer_stops, answer_goes}
 use Rattle.unit.proofs.TreeTurning.{back_end, end_by_back, stops_stuck}
 use Rattle.nodes.specs.State.{given_of}
-use Rattle.walks.specs.Rooted.{Rooted}
+use Rattle.walks.specs.Rooted.{Rooted, UnitRoot}
+use Rattle.walks.proofs.UnitRoots.{rooted}
 use Rattle.walks.specs.Walks.{Says, Done}
 use Rattle.back.specs.Walking.{back_way}
 use Rattle.writer.specs.Delivery.{walk_end, StuckEnd, deliver_flags, InScratch}
@@ -71,24 +72,27 @@ module _ (l : Limits) (root : Node) (bytes : List ℕ) where
 
 -- ---- the end of rows that no walk takes, by how many of them lead
 
-module _ {l : Limits} {root : Node} (r : Rooted (luma l) root) (bytes : List ℕ) {leading : ℕ} (leads : (left : ℕ) → fit_node (luma l) root (rows_in bytes) ≡ stuck left → leading ≡ length bytes / 8 - left) where
-  pub leads_all : leading ≡ length bytes / 8 → StuckEnd (luma l) root bytes (Refused 27 leading)
+module _ {l : Limits} {root : Node} (u : UnitRoot l root) (bytes : List ℕ) {leading : ℕ} (leads : (left : ℕ) → fit_node (luma l) root (rows_in bytes) ≡ stuck left → leading ≡ length bytes / 8 - left) where
+  r : Rooted (luma l) root
+  r = rooted u
+
+  pub leads_all : leading ≡ length bytes / 8 → StuckEnd (luma l) root bytes 27 leading
   leads_all h = record {
-    number = 27;
-    place = leading;
-    refused = refl;
     ends = λ left is.
         let w = (search_is_tree r.proper r.placed.good r.here r.placed.sum).within (rows_in bytes) left is in
         let n = rows_long (length bytes / 8) bytes 0 in
         all_lead (length bytes / 8) leading left (leads left is) h (omega arith);
   }
 
-  pub leads_some : ¬ (leading ≡ length bytes / 8) → StuckEnd (luma l) root bytes (Refused 16 leading)
-  leads_some h = record { number = 16; place = leading; refused = refl; ends = λ left is. some_lead (length bytes / 8) leading left (leads left is) h }
+  pub leads_some : ¬ (leading ≡ length bytes / 8) → StuckEnd (luma l) root bytes 16 leading
+  leads_some h = record { ends = λ left is. some_lead (length bytes / 8) leading left (leads left is) h }
 
 -- ---- what the walk of the root answers, and what the search finds, are the test's end, and the scratch table has its flags
 
-module _ {l : Limits} {root : Node} (r : Rooted (luma l) root) (bytes : List ℕ) (whole_rows : length bytes % 8 ≡ 0) {b z : List ℕ} {answer : ℕ} (done : Done (back_way bytes) (back_node (luma l) root (rows_in bytes)) 0 b answer z) where
+module _ {l : Limits} {root : Node} (u : UnitRoot l root) (bytes : List ℕ) (whole_rows : length bytes % 8 ≡ 0) {b z : List ℕ} {answer : ℕ} (done : Done (back_way bytes) (back_node (luma l) root (rows_in bytes)) 0 b answer z) where
+  stands : Rooted (luma l) root
+  stands = rooted u
+
   abbrev run : Run ℕ (List Row)
   run = back_node (luma l) root (rows_in bytes)
 
@@ -96,16 +100,16 @@ module _ {l : Limits} {root : Node} (r : Rooted (luma l) root) (bytes : List ℕ
   found = fit_node (luma l) root (rows_in bytes)
 
   turning : TurningIsTree (luma l) root
-  turning = turning_is_tree r.proper r.placed.good r.here r.placed.sum
+  turning = turning_is_tree stands.proper stands.placed.good stands.here stands.placed.sum
 
   searching : SearchIsTree (luma l) root
-  searching = search_is_tree r.proper r.placed.good r.here r.placed.sum
+  searching = search_is_tree stands.proper stands.placed.good stands.here stands.placed.sum
 
   few_flags : length run.given ≤ 2048
   unfolding room_of
   few_flags =
-      let a = mul-le-mul (r.placed.good.shape.side Vertical).most (r.placed.good.shape.side Horizontal).most in
-      let q = (back_bound r.proper r.placed.good r.placed.sum (rows_in bytes)).flags in
+      let a = mul-le-mul (stands.placed.good.shape.side Vertical).most (stands.placed.good.shape.side Horizontal).most in
+      let q = (back_bound stands.proper stands.placed.good stands.placed.sum (rows_in bytes)).flags in
       omega arith
 
   all_rows : length (rows_in bytes) ≡ length bytes / 8
@@ -130,11 +134,11 @@ module _ {l : Limits} {root : Node} (r : Rooted (luma l) root) (bytes : List ℕ
   root_walked h e = kept (e ∙ walk_goes bytes answer (length run.given) found whole_rows h run.end says)
 
   -- it is refused, and the search finds the end
-  pub root_refused : 9223372036854775808 ≤ answer → {said : Answer} → StuckEnd (luma l) root bytes said → InScratch (test_rows (luma l) root bytes) said z
-  root_refused h {said} end =
+  pub root_refused : 9223372036854775808 ≤ answer → {number place : ℕ} → StuckEnd (luma l) root bytes number place → InScratch (test_rows (luma l) root bytes) (Refused number place) z
+  root_refused h {number} {place} end =
       let s = walk_stops bytes answer (length run.given) found few_flags h run.end says in
-      kept (end.refused ∙ sym (ap (λ (e : End (List Row)). end_answer (length run.given) (back_end (length bytes / 8) found e)) s.2 ∙ ap (end_answer (length run.given)) (go s.2 found refl)))
+      kept (sym (ap (λ (e : End (List Row)). end_answer (length run.given) (back_end (length bytes / 8) found e)) s.2 ∙ ap (end_answer (length run.given)) (go s.2 found refl)))
     where
-      go : {number place : ℕ} → run.end ≡ stops number place → (f : Fit) → found ≡ f → fit_end (length bytes / 8) found ≡ stops end.number end.place
+      go : {n p : ℕ} → run.end ≡ stops n p → (f : Fit) → found ≡ f → fit_end (length bytes / 8) found ≡ stops number place
       go stopped (whole rest) is = absurd (stops_stuck turning searching (rows_in bytes) stopped rest is)
       go stopped (stuck left) is = ap (fit_end (length bytes / 8)) is ∙ end.ends left is

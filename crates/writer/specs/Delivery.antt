@@ -1,9 +1,5 @@
 -- The end of a way back as the code takes it: from a root that is a leaf, from the number that a walk answers, and from the place that is found for a refusal.
 use Rattle.std.specs.Prelude.{ℕ, ◌/◌, ◌≤◌, ◌≡◌, Bool, false, ◌&&◌, cond, List, ◌++◌, length, take, drop, ltb, eqb}
-use Rattle.settings.specs.declared.Settings.{Settings}
-use Rattle.settings.specs.declared.Located.{Located}
-use Rattle.settings.specs.declared.Located.TheVariants.{At}
-use Rattle.settings.specs.declared.Located.TheVariants as unit
 use Rattle.tree.specs.declared.Limits.{Limits}
 use Rattle.tree.specs.declared.Node.{Node}
 use Rattle.tree.specs.declared.Decision.TheVariants.{Leaf}
@@ -14,10 +10,8 @@ use Rattle.tree.specs.Rows.{Row, row_of, row_at, rows_in}
 use Rattle.tree.specs.Run.{Run, stops}
 use Rattle.tree.specs.Back.{is_same_row}
 use Rattle.tree.specs.Search.{stuck, fit_node}
-use Rattle.unit.specs.declared.Answer.{Answer}
-use Rattle.unit.specs.declared.Answer.TheVariants.{Accepted, Refused}
-use Rattle.unit.specs.Units.{root_of}
-use Rattle.unit.specs.Luma.{limits_of}
+use Rattle.unit.specs.Answers.{Answer}
+use Rattle.refusals.specs.Said.{Accepted, Refused}
 use Rattle.unit.specs.Writer.{fit_end}
 use Rattle.unit.specs.Answers.{Outcome, refused, deliver, answer_of}
 use Rattle.nodes.specs.State.{place_of, given_of}
@@ -26,10 +20,9 @@ use Rattle.nodes.specs.State.{place_of, given_of}
 abbrev pub leaf_alone : Limits → Node → List ℕ → Bool
 leaf_alone l root bytes = eqb (length bytes) 8 && (is_same_row (row_at bytes 0) (row_of root) && inside l root)
 
--- of a unit that was looked for: it is there, and QT is open at its root besides
-abbrev pub quad_alone : Settings → Located → List ℕ → Bool
-quad_alone s (At q) bytes = ltb s.minqt q.side && leaf_alone (limits_of s) (root_of q) bytes
-quad_alone s (unit.Refused number) bytes = false
+-- QT is open there besides
+abbrev pub quad_alone : Limits → Node → List ℕ → Bool
+quad_alone l root bytes = ltb l.minqt root.w && leaf_alone l root bytes
 
 -- the flags of a root that is a leaf, by its open splits
 abbrev pub leaf_flags : ℕ → List ℕ
@@ -43,11 +36,8 @@ deliver_leaf splits buffer = deliver 17 (length (leaf_flags splits)) (leaf_flags
 unfoldable pub walk_end : ℕ → List ℕ → Answer
 walk_end end rows = cond (ltb (place_of end) (length rows)) (Refused 28 (place_of end / 8)) (Accepted (given_of end))
 
--- the end of rows that no walk takes: a refusal, and that of rows that are stuck
-pub record StuckEnd (k : Kind) (root : Node) (bytes : List ℕ) (said : Answer) : Type 0 where
-  pub number : ℕ
-  pub place : ℕ
-  pub refused : said ≡ Refused number place
+-- the end of rows that no walk takes: a refusal's number and place, those of rows that are stuck
+pub record StuckEnd (k : Kind) (root : Node) (bytes : List ℕ) (number place : ℕ) : Type 0 where
   pub ends : (left : ℕ) → fit_node k root (rows_in bytes) ≡ stuck left → fit_end (length bytes / 8) (stuck left) ≡ stops number place
 
 -- the first flags of a scratch table into a buffer; 17 where it is too short
