@@ -6,7 +6,7 @@ use mathlib.Core.List.{List}
 use lib.Dec.{leb}
 use Rattle.settings.specs.declared.Settings.{Settings}
 use Rattle.tree.specs.Rows.{rows_in}
-use Rattle.unit.specs.declared.Answer.TheVariants.{Accepted}
+use Rattle.refusals.specs.Said.{Accepted}
 use Rattle.unit.specs.Luma.{units_of}
 use Rattle.unit.proofs.Luma.{luma_sound}
 use Rattle.unit.proofs.Tested.{Passed}

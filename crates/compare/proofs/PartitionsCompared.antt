@@ -11,7 +11,7 @@ use Rattle.tree.specs.Run.{goes, stops}
 use Rattle.tree.specs.Tree.{rows_of}
 use Rattle.laws.specs.Geometry.{span}
 use Rattle.laws.proofs.Tests.{never}
-use Rattle.unit.specs.declared.Answer.TheVariants.{Accepted, Refused}
+use Rattle.refusals.specs.Said.{Accepted, Refused}
 use Rattle.unit.specs.Units.{located_in}
 use Rattle.unit.specs.Luma.{units_of}
 use Rattle.unit.specs.Writer.{test_in}

@@ -3,7 +3,7 @@
 use Rattle.std.specs.Prelude.{ℕ, ◌≡◌, List}
 use Rattle.settings.specs.declared.Settings.{Settings}
 use Rattle.tree.specs.Rows.{rows_in}
-use Rattle.unit.specs.declared.Answer.TheVariants.{Accepted}
+use Rattle.refusals.specs.Said.{Accepted}
 use Rattle.compare.specs.declared.finer.Finer.{Finer}
 use Rattle.compare.specs.declared.finer.Finer.TheVariants.{Equal, First, Second, Neither}
 use Rattle.compare.specs.Finer.{finer_number}

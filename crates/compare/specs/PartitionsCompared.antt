@@ -6,7 +6,7 @@ use Rattle.settings.specs.Faults.{settings_numbers}
 use Rattle.settings.specs.Units.{unit_refusal}
 use Rattle.tree.specs.Rows.{Row, table_bytes}
 use Rattle.tree.specs.Tree.{rows_of}
-use Rattle.unit.specs.declared.Answer.TheVariants.{Accepted}
+use Rattle.refusals.specs.Said.{Accepted}
 use Rattle.unit.specs.Cases.{row, p2_first, last_three}
 use Rattle.unit.specs.Luma.{units_of}
 use Rattle.unit.specs.Exactly.{UnitTree, Bytes}

@@ -1,5 +1,5 @@
 -- The comparison as the code makes it, by a map of the other table, and what it asks of the two tables.
-use Rattle.std.specs.Prelude.{ℕ, ◌≤◌, ◌≡◌, Bool, true, false, ◌&&◌, List, length, get_or}
+use Rattle.std.specs.Prelude.{ℕ, ◌≤◌, ◌≡◌, Bool, ◌&&◌, List, get_or}
 use Rattle.tree.specs.declared.Node.{Node}
 use Rattle.tree.specs.Kind.{Kind}
 use Rattle.tree.specs.Rows.{Row, rows_in}
@@ -7,18 +7,12 @@ use Rattle.blocks.specs.RowNumbers.{row_word}
 use Rattle.laws.specs.Every.{Every}
 use Rattle.laws.specs.Geometry.{copies}
 use Rattle.nodes.specs.RowNodes.{node_in}
-use Rattle.unit.specs.declared.Answer.TheVariants.{Accepted}
+use Rattle.refusals.specs.Said.{Accepted}
 use Rattle.unit.specs.Answers.{answer_of}
 use Rattle.unit.specs.Writer.{test_rows}
-use Rattle.walks.specs.Rooted.{Rooted}
 use Rattle.cells.specs.Map.{cell_at}
 use Rattle.cells.specs.Held.{Celled}
 use Rattle.compare.specs.Finer.{every_row, span_in}
-
--- whether two tables have the same length and the same rows; where they have not, their bytes differ
-pub record Alike (first second : List ℕ) (answer : Bool) : Type 0 where
-  pub yes : answer ≡ true → (length first ≡ length second) × (rows_in first ≡ rows_in second)
-  pub no : answer ≡ false → ¬ (first ≡ second)
 
 -- a node lies inside another
 abbrev pub node_inside : Node → Node → Bool
@@ -50,7 +44,6 @@ pub record Passes (k : Kind) (root : Node) (bytes : List ℕ) : Type 0 where
   pub flags : ℕ
   pub answer : answer_of (test_rows k root bytes) ≡ Accepted flags
 
--- a root whose tables can be tested and compared
+-- a root whose tables can be compared
 pub record Tabled (k : Kind) (root : Node) : Type 0 where
-  pub rooted : Rooted k root
   pub comparable : (first second : List ℕ) → Passes k root first → Passes k root second → Comparable (rows_in first) (rows_in second)

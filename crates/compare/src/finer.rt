@@ -2,8 +2,8 @@
 ghost use Rattle.std.specs.Prelude.{◌≡◌};
 ghost use Rattle.compare.specs.Finer.{finer_by, finer_number};
 
-// In document 02's order.
-#[derive(Clone, Copy)]
+// In the order of their numbers.
+#[derive(Clone, Copy, Debug, PartialEq, Eq)]
 pub enum Finer {
     Equal,
     First,
@@ -16,12 +16,7 @@ impl Finer {
     pub fn number(self) -> usize
         ensures { result ≡ finer_number self }
     {
-        match self {
-            Finer::Equal => 0,
-            Finer::First => 1,
-            Finer::Second => 2,
-            Finer::Neither => 3,
-        }
+        self as usize
     }
 }
 
@@ -29,13 +24,10 @@ impl Finer {
 pub(crate) fn compared(first: bool, second: bool) -> Finer
     ensures { result ≡ finer_by first second }
 {
-    if first {
-        if second { Finer::Equal } else { Finer::First }
-    } else {
-        if second {
-            Finer::Second
-        } else {
-            Finer::Neither
-        }
+    match (first, second) {
+        (true, true) => Finer::Equal,
+        (true, false) => Finer::First,
+        (false, true) => Finer::Second,
+        (false, false) => Finer::Neither,
     }
 }

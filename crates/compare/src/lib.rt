@@ -6,53 +6,46 @@ mod finer;
 mod tables;
 
 ghost use Rattle.std.specs.Prelude.{◌≡◌};
+ghost use Rattle.refusals.specs.Said.{said};
 ghost use Rattle.tree.specs.Kind.{luma};
 ghost use Rattle.compare.specs.Compare.{compare_rows, compare_unit};
 ghost use Rattle.compare.specs.Tests.{Tabled, Passes};
 
 pub use finer::Finer;
-use settings::{Located, Settings};
-use tree::{Limits, Node};
+use settings::Settings;
 use unit::Answer;
+use walks::Root;
 
 // The comparison with a second table, where the first is that of a tree.
-fn after_first(l: Limits, root: Node, first: &[u8], second: &[u8]) -> Answer
-    requires { Tabled (luma l) root × Passes (luma l) root first.now }
-    ensures { result ≡ compare_rows (luma l) root first.now second.now }
+#[tactic(auto, using(crate::proofs::Calls::second_refused, crate::proofs::Calls::both_accepted, crate::proofs::Calls::both_comparable, crate::proofs::Equal::turned))]
+fn after_first(root: Root, first: &[u8], second: &[u8]) -> Answer
+    requires { Tabled (luma root.limits) root.node × Passes (luma root.limits) root.node first.now }
+    ensures { said result ≡ compare_rows (luma root.limits) root.node first.now second.now }
 {
-    match writer::test_table(l, root, second) {
-        Answer::Refused(number, place) => Answer::Refused(number, place),
-        Answer::Accepted(_flags) => {
-            let finer = tables::finer_or_equal(first, second);
-            let coarser = tables::finer_or_equal(second, first);
-            Answer::Accepted(finer::compared(finer, coarser).number())
-        }
-    }
+    writer::test_table(root, second)?;
+    let finer = tables::finer_or_equal(first, second);
+    let coarser = tables::finer_or_equal(second, first);
+    Ok(finer::compared(finer, coarser).number())
 }
 
 // The comparison of two tables, by the root of their unit. Where they are the same, one test is enough.
-fn compare_rows(l: Limits, root: Node, first: &[u8], second: &[u8]) -> Answer
-    requires { Tabled (luma l) root }
-    ensures { result ≡ compare_rows (luma l) root first.now second.now }
+#[tactic(auto, using(crate::proofs::Calls::first_refused, crate::proofs::Calls::same_equal))]
+fn compare_rows(root: Root, first: &[u8], second: &[u8]) -> Answer
+    requires { Tabled (luma root.limits) root.node }
+    ensures { said result ≡ compare_rows (luma root.limits) root.node first.now second.now }
 {
-    match writer::test_table(l, root, first) {
-        Answer::Refused(number, place) => Answer::Refused(number, place),
-        Answer::Accepted(_flags) => {
-            if tables::same_table(first, second) {
-                Answer::Accepted(Finer::Equal.number())
-            } else {
-                after_first(l, root, first, second)
-            }
-        }
+    writer::test_table(root, first)?;
+    if first == second {
+        return Ok(Finer::Equal.number());
     }
+    after_first(root, first, second)
 }
 
 // Compares two tables of the unit at an address: answers the number of the comparison, 0 to 3, or a refusal.
+#[tactic(auto, using(crate::proofs::Calls::none_compared, crate::proofs::Calls::there_compared))]
 pub fn compare_unit(s: Settings, address: usize, first: &[u8], second: &[u8]) -> Answer
-    ensures { result ≡ compare_unit s address first.now second.now }
+    ensures { said result ≡ compare_unit s address first.now second.now }
 {
-    match settings::unit_at(s, address) {
-        Located::Refused(number) => Answer::Refused(number, 0),
-        Located::At(q) => compare_rows(unit::limits(s), unit::root(q), first, second),
-    }
+    let q = settings::unit_at(s, address)?;
+    compare_rows(Root::of(s, q), first, second)
 }

@@ -5,7 +5,7 @@ ghost use Rattle.tree.specs.Rows.{rows_in};
 ghost use Rattle.nodes.specs.RowNodes.{node_in};
 ghost use Rattle.cells.specs.Held.{filled_by};
 ghost use Rattle.compare.specs.Finer.{span_in, finer_or_equal};
-ghost use Rattle.compare.specs.Tests.{Alike, node_inside, corners_inside, Tiles, Comparable};
+ghost use Rattle.compare.specs.Tests.{node_inside, corners_inside, Tiles, Comparable};
 
 use cells::Map;
 
@@ -17,25 +17,8 @@ fn among(a: u32, l: u32, b: u32, m: u32) -> bool
     (b <= a) & (a + l <= b + m)
 }
 
-// Whether two tables have the same length and the same rows.
-pub(crate) fn same_table(first: &[u8], second: &[u8]) -> bool
-    ensures { Alike first.now second.now result }
-{
-    if first.len() != second.len() {
-        return false;
-    }
-    let n = first.len() / 8;
-    let mut k = 0;
-    while k < n {
-        if marks::word_at(first, k * 8) != marks::word_at(second, k * 8) {
-            return false;
-        }
-        k += 1;
-    }
-    true
-}
-
 // Whether a row's block lies inside another's.
+#[tactic(auto, unfolding(nodes::specs::RowNodes::node_in))]
 fn inside(row: u64, block: u64) -> bool
     ensures { result ≡ node_inside (node_in row) (node_in block) }
 {
@@ -53,35 +36,32 @@ fn inside(row: u64, block: u64) -> bool
 }
 
 // The rows of a table into the map of its unit.
+#[tactic(auto, using(crate::proofs::Passing::fill_next, crate::proofs::Passing::fill_last))]
 fn fill_table(map: &mut Map, rows: &[u8])
     requires { (length map.old ≡ 1024) × Tiles (rows_in rows.now) }
     ensures { map.new ≡ filled_by map.old (rows_in rows.now) }
 {
-    let n = rows.len() / 8;
-    let mut k = 0;
-    while k < n {
+    for k in 0..rows.len() / 8 {
         cells::fill(map, marks::word_at(rows, k * 8));
-        k += 1;
     }
 }
 
 // Whether each row of a table lies inside the block that the map has at its corner.
+#[tactic(auto, using(crate::proofs::Passing::corner_out, crate::proofs::Passing::corner_in, crate::proofs::Passing::corner_last))]
 fn corners_inside(rows: &[u8], map: &Map) -> bool
     ensures { result ≡ corners_inside map.now (rows_in rows.now) }
 {
-    let n = rows.len() / 8;
-    let mut k = 0;
-    while k < n {
+    for k in 0..rows.len() / 8 {
         let row = marks::word_at(rows, k * 8);
         if !inside(row, cells::at_corner(map, row)) {
             return false;
         }
-        k += 1;
     }
     true
 }
 
 // Whether a table is finer than another of the same unit, or equal.
+#[tactic(auto, using(crate::proofs::Corners::map_finer))]
 pub(crate) fn finer_or_equal(rows: &[u8], others: &[u8]) -> bool
     requires { Comparable (rows_in rows.now) (rows_in others.now) }
     ensures { result ≡ finer_or_equal (rows_in rows.now) (rows_in others.now) }

@@ -20,8 +20,7 @@ use Rattle.laws.proofs.DepthBound.{rows_deep}
 use Rattle.laws.proofs.Every.{every_map, every_both}
 use Rattle.laws.proofs.Shape.{side_power}
 use Rattle.laws.proofs.Tables.{rows_long}
-use Rattle.unit.specs.declared.Answer.{Answer}
-use Rattle.unit.specs.declared.Answer.TheVariants.{Accepted, Refused}
+use Rattle.refusals.specs.Said.{Accepted, Refused}
 use Rattle.unit.specs.Answers.{Meets, refused, deliver, finish_end, answer_of}
 use Rattle.unit.specs.Luma.{units_of}
 use Rattle.unit.specs.Writer.{test_unit}
@@ -107,6 +106,6 @@ module _ (s : Settings) (a : ℕ) (bytes page : List ℕ) where
   pub page_refused : {k p : ℕ} → answer_of (test_unit s a bytes) ≡ Refused k p → Meets (write_page s a bytes page) (Refused k p) page
   page_refused e = rw (page_stopped _ _ (answer_stops (test_unit s a bytes) e)) (record { answers = refl; leaves = refl })
 
-  pub page_printed : {count : ℕ} → answer_of (test_unit s a bytes) ≡ Accepted count → {said : Answer} {left : List ℕ}
-      → Meets (deliver 23 (length (page_text a bytes)) (page_text a bytes) page) said left → Meets (write_page s a bytes page) said left
-  page_printed e m = rw (page_given (answer_goes (test_unit s a bytes) e).2) m
+  pub page_printed : {count : ℕ} → answer_of (test_unit s a bytes) ≡ Accepted count
+      → write_page s a bytes page ≡ deliver 23 (length (page_text a bytes)) (page_text a bytes) page
+  page_printed e = page_given (answer_goes (test_unit s a bytes) e).2

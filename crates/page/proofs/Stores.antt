@@ -1,16 +1,26 @@
 -- A line stored column by column, and the lines of a page stored one after another.
-use Prim.Native.Nat.{ℕ, zero, suc, ◌+◌, ◌*◌, ◌^◌, ◌≤◌}
+use Prim.Native.Nat.{ℕ, zero, suc, ◌+◌, ◌*◌, ◌/◌, ◌^◌, ◌≤◌, ◌<◌}
 use mathlib.Core.Path.{◌≡◌, refl, sym, ap, ◌∙◌}
 use mathlib.Core.List.{List, [], ◌∷◌, ◌++◌, append_assoc, append-nil}
 use native.Mathlib.Omega.{arith}
 use native.Mathlib.Nat.{zero-add, add-zero, add-suc, suc-add}
 use native.Mathlib.Numerals.{add-one}
 use lib.ListN.{length, length-append, drop, set, length-drop}
+use borrow.Rule.Slice.PartMut.{put_mid}
 use lib.Seq.{sets, sets-eq, take-append_seam, drop-append-add, drop-drop}
-use Rattle.tree.specs.Rows.{Row, row_at, rows_at}
+use Rattle.tree.specs.Rows.{Row, row_at, rows_at, rows_in}
+use Rattle.laws.specs.Every.{Every}
+use Rattle.laws.specs.Geometry.{SmallRow}
+use Rattle.laws.proofs.Tables.{row_has}
 use Rattle.page.specs.Lines.{column, row_columns, line, lines}
 use Rattle.page.specs.Text.{six_bytes}
-use Rattle.page.proofs.Fitting.{Held}
+use Rattle.page.proofs.Fitting.{Held, line_long}
+
+-- what is copied over a part of a list is stored there
+pub stored : (at k : ℕ) (b given xs : List ℕ) → given ≡ xs → k ≡ length xs → at + k ≤ length b → put_mid at k b given ≡ sets b at xs
+stored at k b given xs e long room =
+    let fits : at + length xs ≤ length b = omega arith in
+    rw (e, long, sets-eq xs b at fits, drop-drop, append_assoc)
 
 -- ---- the columns of a line
 
@@ -69,6 +79,10 @@ rows_next (suc k) bytes i =
     let e : i + 8 + k * 8 ≡ i + suc k * 8 = omega arith in
     ap (λ rest. row_at bytes i ∷ rest) (rows_next k bytes (i + 8) ∙ rw e)
 
+-- each row of a table whose rows are small is
+pub row_small : (bytes : List ℕ) (k : ℕ) → k < length bytes / 8 → Every SmallRow (rows_in bytes) → SmallRow (row_at bytes (k * 8))
+row_small bytes k h small = rw zero-add at (row_has _ k bytes 0 h small)
+
 -- ---- the lines of a page
 
 lines_next : (address : ℕ) (rows : List Row) (r : Row) → lines address (rows ++ (r ∷ [])) ≡ lines address rows ++ line address r
@@ -91,25 +105,26 @@ unfolding lines rows_at
 begun_none address bytes page₀ = record { front = refl; long = refl }
 
 -- a row's columns after those of the address, given as the text of a number, are its line
-pub as_line : (address text : ℕ) (r : Row) (i : ℕ) (page : List ℕ) {out : List ℕ} → six_bytes text ≡ column 6 address
+as_line : (address text : ℕ) (r : Row) (i : ℕ) (page : List ℕ) {out : List ℕ} → six_bytes text ≡ column 6 address
     → out ≡ sets page i (six_bytes text ++ row_columns r) → out ≡ sets page i (line address r)
 unfolding line
 as_line address text r i page address_is e = e ∙ ap (λ t. sets page i (t ++ row_columns r)) address_is
 
 -- and after the lines of k rows that of the next
-pub begun_next : (address : ℕ) (bytes : List ℕ) (k : ℕ) {page₀ page out : List ℕ} → Begun address bytes page₀ k page
-    → length (line address (row_at bytes (k * 8))) ≡ 33 → 33 * (k + 1) ≤ length page₀ → out ≡ sets page (k * 33) (line address (row_at bytes (k * 8)))
-    → Begun address bytes page₀ (k + 1) out
-begun_next address bytes k {page₀} b width room e =
+pub begun_next : (address text : ℕ) (bytes : List ℕ) (k : ℕ) {page₀ page out : List ℕ} → Begun address bytes page₀ k page
+    → six_bytes text ≡ column 6 address → address < 1000000 → SmallRow (row_at bytes (k * 8)) → 33 * (k + 1) ≤ length page₀
+    → out ≡ sets page (k * 33) (six_bytes text ++ row_columns (row_at bytes (k * 8))) → Begun address bytes page₀ (k + 1) out
+begun_next address text bytes k {page₀} {page} b address_is h small room e =
     let rows = rows_at k bytes 0 in
     let r = row_at bytes (k * 8) in
     let front = lines address rows in
     let next = line address r in
+    let width = line_long address h small in
     let more : lines address (rows_at (k + 1) bytes 0) ≡ front ++ next = rw (add-one, rows_next k bytes 0, zero-add) (lines_next address rows r) in
     let there : k * 33 ≡ length front = let l = b.long in omega arith in
     let fits : length next ≤ length (drop (33 * k) page₀) = simp length-drop (omega arith) in
     let past : 33 * k + length next ≡ 33 * (k + 1) = omega arith in
     record {
-      front = e ∙ rw (b.front, there, sets_past front (drop (33 * k) page₀) next fits, drop-drop, past, more);
+      front = as_line address text r (k * 33) page address_is e ∙ rw (b.front, there, sets_past front (drop (33 * k) page₀) next fits, drop-drop, past, more);
       long = rw more (simp length-append (let l = b.long in omega arith));
     }

@@ -6,7 +6,7 @@ use Rattle.settings.specs.Units.{unit_refusal}
 use Rattle.tree.specs.Rows.{table_bytes}
 use Rattle.tree.specs.Tree.{rows_of}
 use Rattle.laws.specs.Every.{Every}
-use Rattle.unit.specs.declared.Answer.TheVariants.{Accepted, Refused}
+use Rattle.refusals.specs.Said.{Accepted, Refused}
 use Rattle.unit.specs.Answers.{deliver}
 use Rattle.unit.specs.Cases.{row}
 use Rattle.unit.specs.Luma.{units_of}

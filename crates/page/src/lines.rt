@@ -15,10 +15,11 @@ fn two_bytes(rows: &[u8], i: usize) -> u32
     requires { i + 1 < length rows.now }
     ensures { (result ≡ get_or rows.now i 0 + 256 * get_or rows.now (i + 1) 0) × (result < 65536) }
 {
-    rows[i] as u32 + rows[i + 1] as u32 * 256
+    u32::from(u16::from_le_bytes([rows[i], rows[i + 1]]))
 }
 
 // The line of the row whose bytes start at a place; the address is given as text in 6 columns.
+#[tactic(auto, unfolding(tree::specs::Rows::row_at))]
 fn put_line(page: &mut [u8], at: usize, address: u64, rows: &[u8], i: usize)
     requires { (at + 33 ≤ length page.old) × (i + 8 ≤ length rows.now) × SmallRow (row_at rows.now i) }
     ensures { page.new ≡ sets page.old at (six_bytes address ++ row_columns (row_at rows.now i)) }
@@ -34,15 +35,13 @@ fn put_line(page: &mut [u8], at: usize, address: u64, rows: &[u8], i: usize)
 }
 
 // The lines of all rows, at the front of a page.
+#[tactic(auto, using(crate::proofs::Stores::row_small))]
 pub(crate) fn put_lines(address: u32, rows: &[u8], page: &mut [u8])
     requires { (address < 1000000) × (33 * (length rows.now / 8) ≤ length page.old) × Every SmallRow (rows_in rows.now) }
     ensures { page.new ≡ lines address (rows_in rows.now) ++ drop (33 * (length rows.now / 8)) page.old }
 {
     let text = six(address);
-    let n = rows.len() / 8;
-    let mut k = 0;
-    while k < n {
+    for k in 0..rows.len() / 8 {
         put_line(page, k * 33, text, rows, k * 8);
-        k += 1;
     }
 }
