@@ -8,8 +8,8 @@ use lib.Seq.{set-get_or}
 use Rattle.tree.specs.Rows.{Row}
 use Rattle.laws.proofs.Tables.{rows_long}
 use Rattle.laws.proofs.Tests.{never}
-use Rattle.unit.specs.declared.Answer.{Answer}
-use Rattle.unit.specs.declared.Answer.TheVariants.{Accepted, Refused}
+use Rattle.unit.specs.Answers.{Answer}
+use Rattle.refusals.specs.Said.{Accepted, Refused}
 use Rattle.unit.specs.Answers.{Outcome}
 use Rattle.unit.specs.Units.{Units}
 use Rattle.unit.specs.Luma.{units_of}

@@ -10,8 +10,8 @@ use lib.ListN.{length}
 use lib.Seq.{set-get_or}
 use borrow.Author.Tests.{lt-ltb, le-ltb}
 use Rattle.laws.proofs.Tests.{never}
-use Rattle.unit.specs.declared.Answer.{Answer}
-use Rattle.unit.specs.declared.Answer.TheVariants.{Accepted, Refused}
+use Rattle.unit.specs.Answers.{Answer}
+use Rattle.refusals.specs.Said.{Accepted, Refused}
 use Rattle.unit.specs.Answers.{Outcome, refused}
 use Rattle.unit.specs.Units.{Units}
 use Rattle.unit.specs.Exactly.{OneOf, AcceptedOr}

@@ -1,4 +1,5 @@
 -- A unit call that is lent only a part of the buffer: its answer, judged, and the buffer are those of the call on all of it, with 36.
+use Rattle.std.proofs.Common.{Ok, Err}
 use Prim.Native.Nat.{ℕ, zero, suc, ◌*◌, ◌/◌, ◌≤◌, ◌<◌, min}
 use mathlib.Core.Path.{◌≡◌, refl, sym, ap, ◌∙◌}
 use mathlib.Core.List.{List, [], ◌∷◌, ◌++◌, append_assoc}
@@ -7,22 +8,19 @@ use native.Mathlib.Omega.{arith}
 use native.Mathlib.Decide.{dec_lt}
 use lib.ListN.{length, take, drop, replicate, length-replicate, take-append-drop, length-take}
 use borrow.Author.Tests.{lt-ltb, le-ltb, ne_eqb, le-leb, lt-leb}
-use Rattle.settings.specs.declared.Located.{Located}
-use Rattle.settings.specs.declared.Located.TheVariants as unit
+use Rattle.settings.specs.Units.{Located}
 use Rattle.settings.specs.Units.{counted_by}
 use Rattle.tree.specs.Kind.{Kind}
 use Rattle.tree.specs.Rows.{Row, table_bytes}
 use Rattle.tree.specs.Run.{Run, End, goes, stops}
-use Rattle.unit.specs.declared.Answer.TheVariants.{Accepted, Refused}
+use Rattle.refusals.specs.Said.{Accepted, Refused}
 use Rattle.unit.specs.Answers.{Outcome, refused, accepted, deliver, finish_end, finish}
 use Rattle.unit.specs.Units.{Units, located_in, root_of}
 use Rattle.unit.specs.Reader.{rows_from, read_tree, read_located}
 use Rattle.unit.proofs.FlagFaults.{fault_range}
 use Rattle.unit.proofs.Parsed.{table_length}
 use Rattle.unit.proofs.Sound.{Sound}
-use Rattle.picture.specs.declared.state.State.{State}
-use Rattle.picture.specs.declared.state.State.TheVariants as state
-use Rattle.picture.specs.State.{Call, call, state_of, on_state, call_in}
+use Rattle.picture.specs.State.{State, Call, call, state_of, on_state, call_in}
 use Rattle.picture.specs.CallFaults.{CallFault, call_settings, call_past, call_complete, call_address, call_flags, call_room}
 use Rattle.picture.proofs.CallFaults.{call_decides_lem}
 use Rattle.bank.specs.Granting.{within}
@@ -34,25 +32,25 @@ abbrev stopped : ℕ → ℕ → Run Row ℕ
 stopped number place = record { given = []; end = stops number place }
 
 abbrev run_at : Kind → Located → List ℕ → Run Row ℕ
-run_at k (unit.At q) flags = rows_from k (root_of q) flags
-run_at k (unit.Refused number) flags = stopped number 0
+run_at k (Ok q) flags = rows_from k (root_of q) flags
+run_at k (Err number) flags = stopped number 0
 
 abbrev run_on : State → Run Row ℕ → Run Row ℕ
-run_on state.Due run = run
-run_on (state.Refused number place) run = stopped number place
+run_on (Accepted _) run = run
+run_on (Refused number place) run = stopped number place
 
 abbrev call_run : Units → (due address : ℕ) → List ℕ → Run Row ℕ
 call_run us due address flags = run_on (state_of (counted_by us.refusal us.count) due address) (run_at us.kind (located_in us address) flags)
 
 located_finish : (k : Kind) (at : Located) (flags b : List ℕ) → read_located k at flags b ≡ finish table_bytes 14 (run_at k at flags) b
 unfolding read_located read_tree finish_end
-located_finish k (unit.At q) flags b = refl
-located_finish k (unit.Refused number) flags b = refl
+located_finish k (Ok q) flags b = refl
+located_finish k (Err number) flags b = refl
 
 state_finish : (st : State) (c : Call) {o : Outcome} (run : Run Row ℕ) → o ≡ finish table_bytes 14 run c.buffer → on_state st c o ≡ finish table_bytes 14 (run_on st run) c.buffer
 unfolding finish_end
-state_finish state.Due c run e = e
-state_finish (state.Refused number place) c run e = refl
+state_finish (Accepted tt) c run e = e
+state_finish (Refused number place) c run e = refl
 
 call_finish : (us : Units) (due : ℕ) (c : Call) → call_in us due c ≡ finish table_bytes 14 (call_run us due c.address c.flags) c.buffer
 unfolding call_in

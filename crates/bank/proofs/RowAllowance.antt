@@ -6,9 +6,10 @@ use mathlib.Core.Logic.{◌↔◌}
 use native.Mathlib.Omega.{arith}
 use native.Mathlib.Decide.{dec_lt}
 use lib.ListN.{length}
+use Rattle.settings.specs.declared.Settings.{Settings}
 use Rattle.laws.proofs.Tests.{never}
-use Rattle.unit.specs.declared.Answer.{Answer}
-use Rattle.unit.specs.declared.Answer.TheVariants.{Accepted, Refused}
+use Rattle.unit.specs.Answers.{Answer}
+use Rattle.refusals.specs.Said.{Accepted, Refused}
 use Rattle.unit.specs.Answers.{Outcome, number_of, refused}
 use Rattle.unit.specs.Luma.{units_of}
 use Rattle.unit.proofs.Luma.{luma_sound}
@@ -54,49 +55,49 @@ whole limit accounts camera p l =
 counted : (share used left : ℕ) → share < 4294967296 → (share - used) + min left (4294967295 - (share + (used - share))) ≡ min ((share - used) + left) (4294967295 - used)
 counted share used left h = omega arith
 
-module _ (limit : ℕ) (accounts : List Account) (t : Session) (camera : ℕ) (c : Call) {n : ℕ} (e : (unit_call t c).answer ≡ Accepted n) (p : Passes limit accounts camera) where
+module _ (limit : ℕ) (accounts : List Account) (t : Session Settings) (camera : ℕ) (c : Call) {n : ℕ} (e : (unit_call units_of t c).answer ≡ Accepted n) (p : Passes limit accounts camera) where
   -- a table is granted where so many rows could be had, and else refused with 36
-  pub grant_fits : n ≤ could_have limit accounts camera → grant limit accounts t camera c ≡ unit_call t c
-  grant_fits l = grant_passing (units_of t.settings) t.due limit accounts camera c p ∙ within_fits (could_have limit accounts camera) c.buffer (unit_call t c) e l
+  pub grant_fits : n ≤ could_have limit accounts camera → grant limit accounts t camera c ≡ unit_call units_of t c
+  grant_fits l = grant_passing (units_of t.settings) t.due limit accounts camera c p ∙ within_fits (could_have limit accounts camera) c.buffer (unit_call units_of t c) e l
 
   pub grant_more : could_have limit accounts camera < n → grant limit accounts t camera c ≡ refused 36 (could_have limit accounts camera) c.buffer
-  grant_more l = grant_passing (units_of t.settings) t.due limit accounts camera c p ∙ within_more (could_have limit accounts camera) c.buffer (unit_call t c) e l
+  grant_more l = grant_passing (units_of t.settings) t.due limit accounts camera c p ∙ within_more (could_have limit accounts camera) c.buffer (unit_call units_of t c) e l
 
-  exactly : limit < 4294967296 → (grant limit accounts t camera c ≡ unit_call t c) ↔ (n ≤ unused (account_of accounts camera) + (left_of limit accounts).rows)
+  exactly : limit < 4294967296 → (grant limit accounts t camera c ≡ unit_call units_of t c) ↔ (n ≤ unused (account_of accounts camera) + (left_of limit accounts).rows)
   exactly l =
       let w = whole limit accounts camera p l in
       (λ g. go g (dec_lt (could_have limit accounts camera) n), λ h. grant_fits (omega arith))
     where
-      go : grant limit accounts t camera c ≡ unit_call t c → Dec (could_have limit accounts camera < n) → n ≤ unused (account_of accounts camera) + (left_of limit accounts).rows
+      go : grant limit accounts t camera c ≡ unit_call units_of t c → Dec (could_have limit accounts camera < n) → n ≤ unused (account_of accounts camera) + (left_of limit accounts).rows
       go g (yes h) = let f : Refused 36 (could_have limit accounts camera) ≡ Accepted n = ap (λ (o : Outcome). o.answer) (sym (grant_more h) ∙ g) ∙ e in never (cc)
       go g (no h) = let w = whole limit accounts camera p l in omega arith
 
 -- ---- the grant is the unit call
 
-module _ (limit : ℕ) (accounts : List Account) (t : Session) (camera : ℕ) (c : Call) where
-  as_unit_call : (n : ℕ) → (grant limit accounts t camera c).answer ≡ Accepted n → grant limit accounts t camera c ≡ unit_call t c
-  as_unit_call n e = go (unit_call t c).answer refl
+module _ (limit : ℕ) (accounts : List Account) (t : Session Settings) (camera : ℕ) (c : Call) where
+  as_unit_call : (n : ℕ) → (grant limit accounts t camera c).answer ≡ Accepted n → grant limit accounts t camera c ≡ unit_call units_of t c
+  as_unit_call n e = go (unit_call units_of t c).answer refl
     where
       p : Passes limit accounts camera
       p = (grant_granted (units_of t.settings) t.due limit accounts camera c e).0
 
-      go : (answer : Answer) → (unit_call t c).answer ≡ answer → grant limit accounts t camera c ≡ unit_call t c
-      go (Refused number place) i = grant_passing (units_of t.settings) t.due limit accounts camera c p ∙ within_refused (could_have limit accounts camera) c.buffer (unit_call t c) i
+      go : (answer : Answer) → (unit_call units_of t c).answer ≡ answer → grant limit accounts t camera c ≡ unit_call units_of t c
+      go (Refused number place) i = grant_passing (units_of t.settings) t.due limit accounts camera c p ∙ within_refused (could_have limit accounts camera) c.buffer (unit_call units_of t c) i
       go (Accepted m) i = by (dec_lt (could_have limit accounts camera) m)
         where
-          by : Dec (could_have limit accounts camera < m) → grant limit accounts t camera c ≡ unit_call t c
+          by : Dec (could_have limit accounts camera < m) → grant limit accounts t camera c ≡ unit_call units_of t c
           by (yes l) =
               let f : Refused 36 (could_have limit accounts camera) ≡ Accepted n = ap (λ (o : Outcome). o.answer) (sym (grant_more limit accounts t camera c i p l)) ∙ e in
               never (cc)
           by (no l) = grant_fits limit accounts t camera c i p (omega arith)
 
 -- those that were granted, as unit calls
-session : (t : Session) (asked : List Asked) → (calls : List Call) × (accepted_in t calls ≡ granted_on t asked)
+session : (t : Session Settings) (asked : List Asked) → (calls : List Call) × (accepted_in t calls ≡ granted_on t asked)
 unfolding lists.accepted_in
 session t [] = ([], refl)
 session t (a ∷ asked) = go (λ u. session u asked)
   where
-    go : ((u : Session) → (calls : List Call) × (accepted_in u calls ≡ granted_on u asked)) → (calls : List Call) × (accepted_in t calls ≡ granted_on t (a ∷ asked))
+    go : ((u : Session Settings) → (calls : List Call) × (accepted_in u calls ≡ granted_on u asked)) → (calls : List Call) × (accepted_in t calls ≡ granted_on t (a ∷ asked))
     go more = by (grant_of t a).answer refl
       where
         by : (answer : Answer) → (grant_of t a).answer ≡ answer → (calls : List Call) × (accepted_in t calls ≡ granted_on t (a ∷ asked))
@@ -127,12 +128,12 @@ module _ (limit : ℕ) (accounts : List Account) (calls : List BankCall) where
       let u = kept.fits (omega arith) in
       record { there = omega arith; shares_fit = omega arith; drawn_fit = omega arith }
 
-  absent_37 : (t : Session) (camera : ℕ) (c : Call) → length accounts ≤ camera → number_of (grant limit present t camera c).answer ≡ 37
+  absent_37 : (t : Session Settings) (camera : ℕ) (c : Call) → length accounts ≤ camera → number_of (grant limit present t camera c).answer ≡ 37
   absent_37 t camera c h =
       let g = kept.lasting in
       ap (λ (o : Outcome). number_of o.answer) (grant_absent (units_of t.settings) t.due limit present camera c (omega arith))
 
-  never_38 : shares accounts ≤ limit → (t : Session) (camera : ℕ) (c : Call) → ¬ (number_of (grant limit present t camera c).answer ≡ 38)
+  never_38 : shares accounts ≤ limit → (t : Session Settings) (camera : ℕ) (c : Call) → ¬ (number_of (grant limit present t camera c).answer ≡ 38)
   never_38 s t camera c x = go (dec_lt camera (length accounts)) (grant limit present t camera c).answer refl
     where
       go : Dec (camera < length accounts) → (answer : Answer) → (grant limit present t camera c).answer ≡ answer → ⊥
@@ -143,8 +144,8 @@ module _ (limit : ℕ) (accounts : List Account) (calls : List BankCall) where
           let d = grant_decides_lem (units_of t.settings) t.due limit present camera c (luma_sound t.settings) (λ due. due) in
           none_38 (units_of t.settings) t.due limit present camera c (luma_sound t.settings) (passes s camera h) ((d.refuses number place).0 i) (omega arith)
 
-  module _ (s : shares accounts ≤ limit) (t : Session) (camera : ℕ) (c : Call) (n : ℕ) (e : (unit_call t c).answer ≡ Accepted n) (l : n ≤ unused (account_of present camera)) where
-    granted : camera < length accounts → grant limit present t camera c ≡ unit_call t c
+  module _ (s : shares accounts ≤ limit) (t : Session Settings) (camera : ℕ) (c : Call) (n : ℕ) (e : (unit_call units_of t c).answer ≡ Accepted n) (l : n ≤ unused (account_of present camera)) where
+    granted : camera < length accounts → grant limit present t camera c ≡ unit_call units_of t c
     granted h = grant_fits limit present t camera c e (passes s camera h) (share_could (account_of present camera).share (account_of present camera).used (left_of limit present).rows n l)
 
     reserved : ¬ (number_of (grant limit present t camera c).answer ≡ 36)

@@ -9,9 +9,9 @@ use native.Mathlib.Decide.{dec_lt}
 use lib.Dec.{ltb}
 use lib.ListN.{length, get_or, set}
 use borrow.Author.Tests.{lt-ltb, le-ltb}
+use Rattle.std.specs.List.{fold}
 use Rattle.bank.specs.declared.accounts.Account.{Account}
-use Rattle.bank.specs.declared.accounts.Left.{Left}
-use Rattle.bank.specs.Accounts.{none, sum_of, shares, total_use, drawn, left_of, held}
+use Rattle.bank.specs.Accounts.{Left, none, sum_of, shares, total_use, drawn, left_of, held}
 use Rattle.bank.specs.Bank.{new_period}
 use Rattle.bank.specs.Steps.{all, left_after}
 
@@ -70,23 +70,12 @@ over_both limit a b = go (dec_lt limit a) (dec_lt (limit - a) b)
     go (no h) (yes l) = rw (le-ltb limit a (omega arith), lt-ltb (limit - a) b l, lt-ltb limit (a + b) (omega arith))
     go (no h) (no l) = rw (le-ltb limit a (omega arith), le-ltb (limit - a) b (omega arith), le-ltb limit (a + b) (omega arith))
 
--- after the first accounts of a list, so many
-abbrev pub left_to : Left → ℕ → List Account → Left
-left_to left zero ys = left
-left_to left (suc i) [] = left
-left_to left (suc i) (y ∷ ys) = left_to (left_after left y) i ys
-
-pub left_next : (left : Left) (i : ℕ) (ys : List Account) → i < length ys → left_after (left_to left i ys) (get_or ys i none) ≡ left_to left (suc i) ys
-left_next left i [] h = absurd (not-suc-le-zero h)
-left_next left zero (y ∷ ys) h = refl
-left_next left (suc i) (y ∷ ys) h = left_next (left_after left y) i ys (le_of_suc-le-suc h)
-
 -- the same where the rows and the test are
 same_left : {m n : ℕ} {s t : Bool} → m ≡ n → s ≡ t → ◌≡◌ {A = Left} (record { rows = m; exceeded = s }) (record { rows = n; exceeded = t })
 same_left e f = λ i. record { rows = e i; exceeded = f i }
 
 left_sum : (rows : ℕ) (over : Bool) (ys : List Account)
-    → left_to (record { rows = rows; exceeded = over }) (length ys) ys ≡ record { rows = rows - sum_of held ys; exceeded = over || ltb rows (sum_of held ys) }
+    → fold left_after (record { rows = rows; exceeded = over }) ys ≡ record { rows = rows - sum_of held ys; exceeded = over || ltb rows (sum_of held ys) }
 unfolding sum_of
 left_sum rows over [] = same_left (omega arith) (sym (ap (λ (t : Bool). over || t) (le-ltb rows 0 (omega arith)) ∙ or-false over))
 left_sum rows over (y ∷ ys) =
@@ -94,7 +83,7 @@ left_sum rows over (y ∷ ys) =
     ∙ same_left (omega arith) (or_assoc over (ltb rows (held y)) (ltb (rows - held y) (sum_of held ys)) ∙ ap (λ (t : Bool). over || t) (over_both rows (held y) (sum_of held ys)))
 
 -- the code finds what is left
-pub left_is : (limit : ℕ) (ys : List Account) → left_to (all limit) (length ys) ys ≡ left_of limit ys
+pub left_is : (limit : ℕ) (ys : List Account) → fold left_after (all limit) ys ≡ left_of limit ys
 left_is limit ys =
     let e = held_is ys in
     left_sum limit false ys ∙ same_left (omega arith) (ap (ltb limit) e ∙ sym (over_both limit (shares ys) (drawn ys)))

@@ -1,9 +1,8 @@
 -- R-12's accounts: "There is one account per camera .. : its reserved share and the rows used", and what they say together of the rows L that all cameras share.
-use Rattle.std.specs.Prelude.{ℕ, ◌+◌, ◌-◌, min, Bool, ◌||◌, List, [], ◌∷◌, ltb}
-use Rattle.unit.specs.declared.Answer.{Answer}
-use Rattle.unit.specs.declared.Answer.TheVariants.{Accepted, Refused}
+use Rattle.std.specs.Prelude.{ℕ, ◌+◌, ◌-◌, min, Bool, true, false, ◌||◌, List, [], ◌∷◌, ltb, Option, Some, None}
+use Rattle.unit.specs.Answers.{Answer}
+use Rattle.refusals.specs.Said.{Accepted, Refused}
 use Rattle.bank.specs.declared.accounts.Account.{Account}
-use Rattle.bank.specs.declared.accounts.Left.{Left}
 
 -- ---- one account
 
@@ -62,6 +61,15 @@ common_part limit accounts = limit - shares accounts
 abbrev pub exceeded : (limit : ℕ) → List Account → Bool
 exceeded limit accounts = ltb limit (shares accounts) || ltb (common_part limit accounts) (drawn accounts)
 
--- "what is left of the common part", and whether there is 38
+-- "what is left of the common part", no row where there is 38, and whether there is
+pub record Left : Type 0 where
+  pub rows : ℕ
+  pub exceeded : Bool
+
+-- the same of the rows that are left: none where the accounts hold more than there is
+abbrev pub left_in : Option ℕ → Left
+left_in (Some rows) = record { rows = rows; exceeded = false }
+left_in None = record { rows = 0; exceeded = true }
+
 abbrev pub left_of : (limit : ℕ) → List Account → Left
 left_of limit accounts = record { rows = common_part limit accounts - drawn accounts; exceeded = exceeded limit accounts }

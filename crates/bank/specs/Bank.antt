@@ -1,6 +1,6 @@
 -- R-12's grant and new period on a list of accounts: "The grant is the unit call, given the accounts, the camera's index and L besides."
 use Rattle.std.specs.Prelude.{ℕ, cond, List, map, leb, length, get_or, set}
-use Rattle.unit.specs.declared.Answer.{Answer}
+use Rattle.unit.specs.Answers.{Answer}
 use Rattle.unit.specs.Answers.{Outcome, refused}
 use Rattle.unit.specs.Units.{Units}
 use Rattle.picture.specs.State.{Call, call_in}

@@ -1,5 +1,6 @@
 -- Lists of calls on one list of accounts with one L, which alone change it: new periods, and grants, refused ones included, on any sessions.
 use Rattle.std.specs.Prelude.{ℕ, List, [], ◌∷◌, ◌++◌}
+use Rattle.settings.specs.declared.Settings.{Settings}
 use Rattle.unit.specs.Answers.{Outcome}
 use Rattle.unit.specs.Luma.{units_of}
 use Rattle.sessions.specs.Lists.{prepend}
@@ -10,12 +11,12 @@ use Rattle.bank.specs.declared.accounts.Account.{Account}
 use Rattle.bank.specs.Bank.{grant_in, accounts_after, new_period}
 
 -- a grant of a unit call on a session
-abbrev pub grant : (limit : ℕ) → List Account → Session → (camera : ℕ) → Call → Outcome
+abbrev pub grant : (limit : ℕ) → List Account → Session Settings → (camera : ℕ) → Call → Outcome
 grant limit accounts t camera c = grant_in (units_of t.settings) t.due limit accounts camera c
 
 pub data BankCall : Type 0 where
   a_new_period : BankCall
-  a_grant : Session → (camera : ℕ) → Call → BankCall
+  a_grant : Session Settings → (camera : ℕ) → Call → BankCall
 
 -- the accounts after a call
 abbrev pub after_call : (limit : ℕ) → List Account → BankCall → List Account

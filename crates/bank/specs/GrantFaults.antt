@@ -1,6 +1,6 @@
 -- What is wrong with a grant: numbers and places, each beside the fault that it names. A fault counts only where none of those before it is met.
 use Rattle.std.specs.Prelude.{ℕ, ◌≤◌, ◌<◌, ◌≡◌, List, [], ◌∷◌, length}
-use Rattle.unit.specs.declared.Answer.TheVariants.{Accepted}
+use Rattle.refusals.specs.Said.{Accepted}
 use Rattle.unit.specs.Units.{Units}
 use Rattle.picture.specs.State.{Call, call_in}
 use Rattle.picture.specs.CallFaults.{CallFault}

@@ -1,11 +1,10 @@
 -- The grant on a camera's account, by what is left of the common part.
 use Rattle.std.specs.Prelude.{ℕ, cond, List, ltb}
-use Rattle.unit.specs.declared.Answer.{Answer}
-use Rattle.unit.specs.declared.Answer.TheVariants.{Accepted, Refused}
+use Rattle.unit.specs.Answers.{Answer}
+use Rattle.refusals.specs.Said.{Accepted, Refused}
 use Rattle.unit.specs.Answers.{Outcome, refused}
 use Rattle.bank.specs.declared.accounts.Account.{Account}
-use Rattle.bank.specs.declared.accounts.Left.{Left}
-use Rattle.bank.specs.Accounts.{could}
+use Rattle.bank.specs.Accounts.{Left, could}
 
 -- "36 when the grant fails the stated test, after 14, its place the rows that could be had": what becomes of a unit call on this buffer where so many rows could be had
 abbrev pub allowed : (could : ℕ) (buffer : List ℕ) → Outcome → Answer → Outcome

@@ -1,14 +1,15 @@
 -- The grant in the steps of the code: what is left, account by account, and the unit call that is lent a part of the buffer.
 use Rattle.std.specs.Prelude.{ℕ, ◌-◌, ◌/◌, ◌≡◌, false, cond, ◌&&◌, ◌||◌, List, leb, ltb, eqb}
-use Rattle.unit.specs.declared.Answer.{Answer}
-use Rattle.unit.specs.declared.Answer.TheVariants.{Accepted, Refused}
+use Rattle.settings.specs.declared.Settings.{Settings}
+use Rattle.unit.specs.Answers.{Answer}
+use Rattle.refusals.specs.Said.{Accepted, Refused}
+use Rattle.unit.specs.Luma.{units_of}
 use Rattle.picture.specs.declared.Session.{Session}
 use Rattle.picture.specs.State.{Call, Returns}
-use Rattle.picture.specs.Session.{unit_call, returned}
+use Rattle.picture.specs.Session.{unit_call, returned, replied}
 use Rattle.bank.specs.declared.accounts.Account.{Account}
-use Rattle.bank.specs.declared.accounts.Left.{Left}
 use Rattle.bank.specs.declared.Granted.{Granted}
-use Rattle.bank.specs.Accounts.{held, charged}
+use Rattle.bank.specs.Accounts.{Left, held, charged}
 use Rattle.bank.specs.Granting.{on_account}
 
 -- what is left before the first account, and after one more
@@ -25,6 +26,6 @@ judged (Accepted count) room could = Accepted count
 judged (Refused number place) room could = cond (eqb number 14 && leb place (room / 8)) (Refused 36 could) (Refused number place)
 
 -- what a function returns, the account and the rest, and the buffer that it leaves are those of a grant on an account
-pub record Grants (left : Left) (own : Account) (t : Session) (c : Call) (r : Granted) (rows : List ℕ) : Type 0 where
-  pub called : Returns (returned t) (on_account left own c.buffer (unit_call t c)) r.called rows
-  pub account : r.account ≡ charged own (on_account left own c.buffer (unit_call t c)).answer
+pub record Grants (left : Left) (own : Account) (t : Session Settings) (c : Call) (r : Granted) (rows : List ℕ) : Type 0 where
+  pub called : Returns (returned t) (on_account left own c.buffer (unit_call units_of t c)) (replied r.called) rows
+  pub account : r.account ≡ charged own (on_account left own c.buffer (unit_call units_of t c)).answer

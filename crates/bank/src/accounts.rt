@@ -1,9 +1,9 @@
 // The accounts of a bank of cameras, one at a time: what an account holds of the rows that all cameras share, and how
 // many its camera could have.
-ghost use Rattle.std.specs.Prelude.{◌≡◌, ℕ, ◌+◌, ◌-◌, ◌≤◌};
-ghost use Rattle.unit.specs.declared.Answer.TheVariants.{Accepted as Answer-as-Accepted};
-ghost use Rattle.bank.specs.Accounts.{cleared, unused, held, could, charged};
-ghost use Rattle.bank.specs.Steps.{all, left_after};
+ghost use Rattle.std.specs.Prelude.{◌≡◌, ℕ, ◌+◌, ◌-◌, ◌≤◌, Ok};
+ghost use Rattle.refusals.specs.Said.{said};
+ghost use Rattle.bank.specs.Accounts.{left_in, cleared, unused, held, could, charged};
+ghost use Rattle.bank.specs.Steps.{left_after};
 
 use unit::Answer;
 
@@ -15,64 +15,25 @@ pub struct Account {
     pub used: u32,
 }
 
-// What is left of the common part; no row where the accounts hold more than there is.
-#[derive(Clone, Copy)]
-pub struct Left {
-    pub rows: u64,
-    pub exceeded: bool,
-}
-
 // The account in a new period.
 pub fn cleared(a: Account) -> Account
     ensures { result ≡ cleared a }
 {
-    Account {
-        share: a.share,
-        used: 0,
-    }
-}
-
-// What is left of a limit before the first account.
-pub fn all_left(limit: u64) -> Left
-    ensures { result ≡ all limit }
-{
-    Left {
-        rows: limit,
-        exceeded: false,
-    }
-}
-
-// x less y, and 0 where y is more.
-fn less(x: u64, y: u64) -> u64
-    ensures { result ≡ x - y }
-{
-    if y <= x { x - y } else { 0 }
+    Account { used: 0, ..a }
 }
 
 // What an account holds of the limit: its share, and the use beyond it.
 fn held(a: Account) -> u64
     ensures { result ≡ held a }
 {
-    let share = a.share;
-    let used = a.used;
-    if share < used {
-        used as u64
-    } else {
-        share as u64
-    }
+    u32::max(a.share, a.used) as u64
 }
 
-// What is left after one more account.
-pub fn left_after(left: Left, a: Account) -> Left
-    ensures { result ≡ left_after left a }
+// What is left of the common part after one more account; none where the accounts hold more than there is.
+pub fn left_after(left: Option<u64>, a: Account) -> Option<u64>
+    ensures { left_in result ≡ left_after (left_in left) a }
 {
-    let rows = left.rows;
-    let exceeded = left.exceeded;
-    let n = held(a);
-    Left {
-        rows: less(rows, n),
-        exceeded: exceeded | (rows < n),
-    }
+    left?.checked_sub(held(a))
 }
 
 // How many rows a camera could have, by its account and what is left of the common part.
@@ -81,24 +42,19 @@ pub(crate) fn could_have(left: u64, a: Account) -> usize
 {
     let n = held(a);
     let unused = n - a.used as u64;
-    let most = 4294967295 - n;
-    if left < most {
-        (unused + left) as usize
-    } else {
-        (unused + most) as usize
-    }
+    (unused + u64::min(left, u32::MAX as u64 - n)) as usize
 }
 
 // The account after a grant with an answer.
 pub(crate) fn charged(a: Account, answer: Answer) -> Account
-    requires { (count : ℕ) → answer ≡ Answer-as-Accepted count → count ≤ unused a + (4294967295 - held a) }
-    ensures { result ≡ charged a answer }
+    requires { (count : ℕ) → answer ≡ Ok count → count ≤ unused a + (4294967295 - held a) }
+    ensures { result ≡ charged a (said answer) }
 {
     match answer {
-        Answer::Accepted(count) => Account {
-            share: a.share,
+        Ok(count) => Account {
             used: a.used + count as u32,
+            ..a
         },
-        Answer::Refused(_, _) => a,
+        Err(_) => a,
     }
 }

@@ -1,40 +1,29 @@
 -- R-10, proved: each claim is the law of all units, or of all sessions, at the units of H.265.
-use Prim.Native.Nat.{ℕ, ◌+◌}
-use mathlib.Core.Path.{◌≡◌}
 use native.Mathlib.Omega.{arith}
 use Rattle.settings.proofs.Grid.{unit_taken}
-use Rattle.laws.proofs.Tests.{never}
-use Rattle.unit.specs.declared.Answer.TheVariants.{Accepted}
 use Rattle.unit.proofs.Decided.{reading_decides, turning_decides}
 use Rattle.unit.proofs.FlagBuffer.{planned}
 use Rattle.unit.proofs.RoundTrips.{read_there, exact}
 use Rattle.unit.proofs.TableStops.{stops_by_trees}
 use Rattle.sessions.proofs.Demand as sessions
 use Rattle.sessions.proofs.CellOrder.{each_cells, joined_cells}
-use Rattle.picture.specs.State.{Call}
-use Rattle.picture.proofs.CallFaults.{opens, call_decides_lem}
+use Rattle.picture.proofs.CallFaults.{call_decides_lem}
 use Rattle.picture.proofs.PipelineOrder.{unit_order}
+use Rattle.picture.proofs.Sessions.{at_due, moves, session_opens, fresh}
 use Rattle.picture.proofs.StateCalls.{call_on_the_due}
 use Rattle.h265settings.specs.Units.{units_of}
 use Rattle.h265settings.proofs.Sound.{h265_sound}
-use Rattle.h265.specs.declared.session.Session.{Session}
-use Rattle.h265.specs.declared.session.Opened.TheVariants.{Fresh, Refused}
-use Rattle.h265.specs.Session.{unit_call, following}
 use Rattle.h265.specs.H265.{Refuses, H265}
 use Rattle.h265.proofs.QuadNodes.{quad_nodes}
 use Rattle.h265.proofs.Bounds.{bounds}
-use Rattle.h265.proofs.Sessions.{h265_units, h265_laws, fresh, demand3}
-
-moves : (t : Session) (c : Call) (count : ℕ) → (unit_call t c).answer ≡ Accepted count
-    → following t (unit_call t c).answer ≡ record { settings = t.settings; due = t.due + 1 }
-moves t c count e = rw e
+use Rattle.h265.proofs.Sessions.{h265_units, h265_laws, demand3}
 
 refuses : Refuses
 refuses = record {
-  opens = λ s. opens (units_of s) (Fresh (record { settings = s; due = 0 })) Refused (λ number e. never (cc)) (λ m n e. cc) (h265_sound s);
-  calls = λ t c. call_decides_lem (h265_sound t.settings) t.due c (λ due. record { settings = t.settings; due = due });
+  opens = λ s. session_opens units_of s (h265_sound s);
+  calls = λ t c. call_decides_lem (h265_sound t.settings) t.due c (at_due t.settings);
   due_unit = λ t c. call_on_the_due (units_of t.settings) t.due c;
-  moves = moves;
+  moves = moves units_of;
   reads = λ s. reading_decides (h265_sound s);
   turns = λ s. turning_decides (h265_sound s);
 }
@@ -50,7 +39,7 @@ h265 = record {
       unit_order _ (h265_units s t.0) (omega arith) a flags buffer e;
   demand3 = demand3;
   pipeline = λ s t e calls.
-      let f = fresh s t e in
+      let f = fresh units_of s t e in
       let l = h265_laws s f.0 in
       record {
         own = λ small. sessions.after_inside l f.1 (omega arith) calls tt;

@@ -1,6 +1,6 @@
 -- How many rows and flags a unit of H.265 has at most. Buffers for so many are never too short.
 use Rattle.std.specs.Prelude.{ℕ, ◌-◌, ◌*◌, ◌/◌, ◌≡◌, replicate}
-use Rattle.unit.specs.declared.Answer.TheVariants.{Accepted}
+use Rattle.refusals.specs.Said.{Accepted}
 use Rattle.unit.specs.Bounds.{Bounded}
 use Rattle.h265settings.specs.declared.Settings.{Settings}
 use Rattle.h265settings.specs.Checks.{settings_refusal}

@@ -1,11 +1,11 @@
 -- R-10, "Older streams in H.265", one claim: "Rows, both directions and covering are as for H.266". For H.265's settings it has demands 1, 2 and 3, and what R-4,
 -- R-5, R-7 and R-14 say; the statements are those of all units and sessions, at the units of H.265 (`units_of`, h265settings/specs/Units.antt).
-use Rattle.std.specs.Prelude.{ℕ, ◌+◌, ◌<◌, ◌≡◌, List, length}
+use Rattle.std.specs.Prelude.{ℕ, ◌+◌, ◌<◌, ◌≡◌, List, length, Ok, Err}
 use Rattle.tree.specs.Rows.{Row, rows_at}
 use Rattle.laws.specs.Every.{Every}
 use Rattle.laws.specs.Geometry.{InOneCell, pipeline_side}
 use Rattle.laws.specs.CellOrder.{CellByCell}
-use Rattle.unit.specs.declared.Answer.TheVariants.{Accepted}
+use Rattle.refusals.specs.Said.{Accepted}
 use Rattle.unit.specs.Units.{refusal_in}
 use Rattle.unit.specs.Demand2.{Exact}
 use Rattle.unit.specs.Exactly.{Bytes}
@@ -19,10 +19,9 @@ use Rattle.picture.specs.CallFaults.{Opens, UnitDue, CallFault, call_numbers}
 use Rattle.h265settings.specs.declared.Settings.{Settings}
 use Rattle.h265settings.specs.Faults.{settings_numbers}
 use Rattle.h265settings.specs.Units.{units_of}
-use Rattle.h265.specs.declared.session.Session.{Session}
-use Rattle.h265.specs.declared.session.Opened.TheVariants.{Fresh, Refused}
+use Rattle.picture.specs.declared.Session.{Session}
 use Rattle.h265.specs.Calls.{read_unit, write_flags}
-use Rattle.h265.specs.Session.{opening, unit_call, following}
+use Rattle.picture.specs.Session.{opening, unit_call, following}
 use Rattle.h265.specs.QuadNodes.{QuadNodes}
 use Rattle.h265.specs.Bounds.{Bounds}
 use Rattle.h265.specs.Demand3.{coding, Demand3}
@@ -30,16 +29,16 @@ use Rattle.h265.specs.Demand3.{coding, Demand3}
 -- demand 1: what is refused, with its number and place, in which order, and nothing else; a refusal leaves buffers and session as they were
 pub record Refuses : Type 0 where
   -- opening: 34, 35, 7 and 8; else it yields the settings given, with address 0 due
-  pub opens : (s : Settings) → Opens (units_of s) (opening s) (Fresh (record { settings = s; due = 0 })) Refused
+  pub opens : (s : Settings) → Opens (units_of s) (opening units_of s) (Ok (record { settings = s; due = 0 })) Err
   -- the unit call, on every session: 22, "its session's 22 tests these four", 20, 21, then 11 to 14
-  pub calls : (t : Session) (c : Call)
-      → Decides {Lent = Session × List ℕ} (CallFault (units_of t.settings) t.due c) call_numbers (unit_call t c).answer
-      (t, c.buffer) (following t (unit_call t c).answer, (unit_call t c).buffer)
+  pub calls : (t : Session Settings) (c : Call)
+      → Decides {Lent = Session Settings × List ℕ} (CallFault (units_of t.settings) t.due c) call_numbers (unit_call units_of t c).answer
+      (t, c.buffer) (following t (unit_call units_of t c).answer, (unit_call units_of t c).buffer)
   -- on the due unit it is the reading of that unit, and an accepted one moves the due address on
-  pub due_unit : (t : Session) (c : Call) → UnitDue (units_of t.settings) t.due → c.address ≡ t.due
-      → unit_call t c ≡ read_unit t.settings t.due c.flags c.buffer
-  pub moves : (t : Session) (c : Call) (count : ℕ) → (unit_call t c).answer ≡ Accepted count
-      → following t (unit_call t c).answer ≡ record { settings = t.settings; due = t.due + 1 }
+  pub due_unit : (t : Session Settings) (c : Call) → UnitDue (units_of t.settings) t.due → c.address ≡ t.due
+      → unit_call units_of t c ≡ read_unit t.settings t.due c.flags c.buffer
+  pub moves : (t : Session Settings) (c : Call) (count : ℕ) → (unit_call units_of t c).answer ≡ Accepted count
+      → following t (unit_call units_of t c).answer ≡ record { settings = t.settings; due = t.due + 1 }
   -- the reader: 34, 35, 7, 8 and 10 to 14
   pub reads : (s : Settings) (a : ℕ) (flags buffer : List ℕ)
       → Decides (ReadFault (units_of s) a flags (length buffer)) (read_numbers settings_numbers) (read_unit s a flags buffer).answer
@@ -63,7 +62,7 @@ abbrev pub InOrder : Settings → List Row → Type 0
 InOrder s rows = CellByCell (pipeline_side s.ctu) s.width s.height rows
 
 -- after a list of calls from a freshly opened session
-pub record InPipelineUnits (s : Settings) (t : Session) (calls : List Call) : Type 0 where
+pub record InPipelineUnits (s : Settings) (t : Session Settings) (calls : List Call) : Type 0 where
   -- R-4: with CTU side 16 or 32 no row leaves its pipeline unit, which is its unit; with 64 demand 3 has it
   pub own : s.ctu < 64 → Every (InOneCell (pipeline_side s.ctu)) (joined (coding s) tt (accepted_in (coding s) t calls))
   -- R-14: units arrive whole, in each unit's table and in the joined one
@@ -79,4 +78,4 @@ pub record H265 : Type 0 where
   pub order : (s : Settings) (a : ℕ) (flags buffer : List ℕ) (count : ℕ) → (read_unit s a flags buffer).answer ≡ Accepted count
       → InOrder s (rows_at count (read_unit s a flags buffer).buffer 0)
   pub demand3 : Demand3
-  pub pipeline : (s : Settings) (t : Session) → opening s ≡ Fresh t → (calls : List Call) → InPipelineUnits s t calls
+  pub pipeline : (s : Settings) (t : Session Settings) → opening units_of s ≡ Ok t → (calls : List Call) → InPipelineUnits s t calls

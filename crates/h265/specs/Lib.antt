@@ -1,5 +1,4 @@
 pub mod Calls
-pub mod Session
 pub mod QuadNodes
 pub mod Bounds
 pub mod Demand3

@@ -8,7 +8,7 @@ use borrow.Author.Tests.{eq-eqb, ne_eqb, lt-leb}
 use native.Mathlib.Omega.{arith}
 use native.Mathlib.Decide.{ℕ_discrete}
 use Rattle.settings.specs.Units.{refusal_at}
-use Rattle.unit.specs.declared.Answer.TheVariants as answer
+use Rattle.refusals.specs.Said as answer
 use Rattle.unit.specs.Answers.{refused}
 use Rattle.unit.specs.Units.{Units, refusal_in}
 use Rattle.unit.specs.Exactly.{OneOf}

@@ -1,10 +1,10 @@
 pub mod CallFaults
-pub mod Numbers
 pub mod Samples
 pub mod OneTree
 pub mod StateCalls
 pub mod Calls
 pub mod LumaUnits
+pub mod Sessions
 pub mod Demand1
 pub mod Demand3
 pub mod Pipeline

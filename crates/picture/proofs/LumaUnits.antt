@@ -7,11 +7,12 @@ use Rattle.settings.proofs.Grid.{unit_taken}
 use Rattle.tree.specs.declared.Limits.{Limits}
 use Rattle.tree.specs.Kind.{luma}
 use Rattle.laws.specs.Geometry.{pipeline_side}
-use Rattle.unit.specs.declared.Answer.TheVariants.{Accepted}
+use Rattle.refusals.specs.Said.{Accepted}
 use Rattle.unit.specs.Units.{Units, root_of}
 use Rattle.unit.specs.Luma.{luma_units}
 use Rattle.unit.specs.Reader.{read_in}
-use Rattle.unit.proofs.Roots.{Root, Usable, usable_root}
+use Rattle.unit.specs.Usable.{Usable}
+use Rattle.unit.proofs.Roots.{Root, usable_root}
 use Rattle.unit.proofs.RoundTrips.{read_there, unit_accepted, flags_back}
 use Rattle.unit.proofs.Sound.{Sound}
 use Rattle.sessions.proofs.Parts.{GoodRoot}

@@ -12,8 +12,8 @@ use Rattle.tree.specs.Rows.{rows_at}
 use Rattle.tree.specs.Tree.{Tree, flags_of, rows_of}
 use Rattle.laws.specs.Every.{every_none, every_more}
 use Rattle.laws.proofs.Tests.{never}
-use Rattle.unit.specs.declared.Answer.{Answer}
-use Rattle.unit.specs.declared.Answer.TheVariants.{Accepted, Refused}
+use Rattle.unit.specs.Answers.{Answer}
+use Rattle.refusals.specs.Said.{Accepted, Refused}
 use Rattle.unit.specs.Answers.{Outcome, accepted}
 use Rattle.unit.specs.Units.{root_of}
 use Rattle.sessions.specs.Samples.{in_square}

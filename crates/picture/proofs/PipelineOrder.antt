@@ -1,6 +1,6 @@
 -- R-14, proved: of a reading by the law of coding trees, of a list of calls by the laws of sessions.
 use Prim.Native.Nat.{ℕ}
-use mathlib.Core.Path.{◌≡◌, sym}
+use mathlib.Core.Path.{◌≡◌}
 use mathlib.Core.List.{List}
 use native.Mathlib.Omega.{arith}
 use Rattle.settings.specs.Checks.{settings_refusal}
@@ -8,7 +8,8 @@ use Rattle.settings.specs.Units.{unit_count}
 use Rattle.settings.proofs.Grid.{unit_taken}
 use Rattle.tree.specs.Rows.{rows_at}
 use Rattle.laws.specs.CellOrder.{CellByCell}
-use Rattle.unit.specs.declared.Answer.TheVariants.{Accepted}
+use Rattle.refusals.specs.Said.{Accepted}
+use Rattle.unit.specs.Luma.{units_of}
 use Rattle.unit.proofs.Luma.{luma_sound}
 use Rattle.unit.proofs.RoundTrips.{read_there}
 use Rattle.sessions.proofs.Parts.{part_cells}
@@ -16,7 +17,8 @@ use Rattle.sessions.proofs.CellOrder.{each_cells, joined_cells}
 use Rattle.picture.specs.OneTree.{OneTree}
 use Rattle.picture.specs.PipelineOrder.{PipelineOrder}
 use Rattle.picture.proofs.OneTree.{UnitLaws}
-use Rattle.picture.proofs.Demand3.{greyscale_units, greyscale_laws, fresh}
+use Rattle.picture.proofs.Demand3.{greyscale_units, greyscale_laws}
+use Rattle.picture.proofs.Sessions.{fresh}
 
 -- an accepted reading of units with one tree
 pub unit_order : (o : OneTree) → UnitLaws o → {side : ℕ} → side ≡ o.cell → (a : ℕ) (flags buffer : List ℕ) {m : ℕ}
@@ -31,7 +33,7 @@ pipeline_order = record {
       let t = unit_taken (settings_refusal s) (unit_count s) a (read_there (luma_sound s) a flags buffer count e) in
       unit_order _ (greyscale_units s t.0) (omega arith) a flags buffer e;
   session = λ s t e calls.
-      let f = fresh s t e in
+      let f = fresh units_of s t e in
       let l = greyscale_laws s f.0 in
-      record { each = each_cells l tt (sym f.1) calls; all = joined_cells l tt (sym f.1) calls };
+      record { each = each_cells l tt f.1 calls; all = joined_cells l tt f.1 calls };
 }

@@ -4,17 +4,15 @@ use mathlib.Core.Path.{◌≡◌, sym, ap, ◌∙◌}
 use native.Mathlib.Omega.{arith}
 use native.Mathlib.Decide.{ℕ_discrete, dec_lt}
 use borrow.Author.Tests.{eq-eqb, ne_eqb, lt-ltb, le-ltb}
-use Rattle.settings.specs.declared.Count.{Count}
+use Rattle.settings.specs.Units.{Count}
 use Rattle.settings.specs.Units.{counted_by}
 use Rattle.laws.proofs.Tests.{never}
-use Rattle.unit.specs.declared.Answer.{Answer}
-use Rattle.unit.specs.declared.Answer.TheVariants.{Accepted, Refused}
+use Rattle.unit.specs.Answers.{Answer}
+use Rattle.refusals.specs.Said.{Accepted, Refused}
 use Rattle.unit.specs.Answers.{Outcome, refused}
 use Rattle.unit.specs.Units.{Units}
 use Rattle.unit.specs.Reader.{read_in}
-use Rattle.picture.specs.declared.state.State.{State}
-use Rattle.picture.specs.declared.state.State.TheVariants as state
-use Rattle.picture.specs.State.{Call, state_of, call_in, next_due}
+use Rattle.picture.specs.State.{State, Call, state_of, call_in, next_due}
 use Rattle.picture.specs.CallFaults.{UnitDue}
 use Rattle.picture.specs.OneTree.{tree_units}
 use Rattle.picture.proofs.OneTree.{SessionLaws}
@@ -28,35 +26,35 @@ module _ (us : Units) (due : ℕ) (c : Call) where
   abbrev found : State
   found = state_of counted due c.address
 
-  pub on_refused : {number place : ℕ} → found ≡ state.Refused number place → call_in us due c ≡ refused number place c.buffer
+  pub on_refused : {number place : ℕ} → found ≡ Refused number place → call_in us due c ≡ refused number place c.buffer
   unfolding call_in
   on_refused e = rw e
 
-  pub on_due : found ≡ state.Due → call_in us due c ≡ read_in us c.address c.flags c.buffer
+  pub on_due : found ≡ Accepted tt → call_in us due c ≡ read_in us c.address c.flags c.buffer
   unfolding call_in
   on_due e = rw e
 
   -- ---- by its tests
 
-  meets_settings : ¬ (us.refusal ≡ 0) → found ≡ state.Refused 22 0
+  meets_settings : ¬ (us.refusal ≡ 0) → found ≡ Refused 22 0
   unfolding state_of counted_by
   meets_settings e = rw (ne_eqb us.refusal 0 e)
 
-  meets_past : us.refusal ≡ 0 → us.count < due → found ≡ state.Refused 22 0
+  meets_past : us.refusal ≡ 0 → us.count < due → found ≡ Refused 22 0
   unfolding state_of counted_by
   meets_past e l = rw (eq-eqb us.refusal 0 e, lt-ltb us.count due l)
 
-  meets_complete : us.refusal ≡ 0 → due ≡ us.count → found ≡ state.Refused 20 0
+  meets_complete : us.refusal ≡ 0 → due ≡ us.count → found ≡ Refused 20 0
   unfolding state_of counted_by
   meets_complete e d = rw (eq-eqb us.refusal 0 e, le-ltb us.count due (omega arith), eq-eqb due us.count d)
 
-  meets_address : UnitDue us due → ¬ (c.address ≡ due) → found ≡ state.Refused 21 due
+  meets_address : UnitDue us due → ¬ (c.address ≡ due) → found ≡ Refused 21 due
   unfolding state_of counted_by
   meets_address u a =
       let l = u.below in
       rw (eq-eqb us.refusal 0 u.passed, le-ltb us.count due (omega arith), ne_eqb due us.count (λ e. omega arith), ne_eqb c.address due a)
 
-  meets_none : UnitDue us due → c.address ≡ due → found ≡ state.Due
+  meets_none : UnitDue us due → c.address ≡ due → found ≡ Accepted tt
   unfolding state_of counted_by
   meets_none u a =
       let l = u.below in
@@ -100,7 +98,7 @@ module _ (us : Units) (due : ℕ) (c : Call) where
       go (yes o) (no l) (no d) (no a) = elsewhere (record { passed = o; below = omega arith }) a
 
   -- a state without a refusal, and a call that is accepted, find the due unit
-  pub due_here : state_of (counted_by us.refusal us.count) due c.address ≡ state.Due → UnitDue us due × (c.address ≡ due)
+  pub due_here : state_of (counted_by us.refusal us.count) due c.address ≡ Accepted tt → UnitDue us due × (c.address ≡ due)
   due_here e = go state_case
     where
       go : StateCase us due c → UnitDue us due × (c.address ≡ due)

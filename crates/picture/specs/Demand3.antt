@@ -1,15 +1,15 @@
 -- Demand 3: one claim about every list of unit calls from a freshly opened session.
-use Rattle.std.specs.Prelude.{ℕ, ◌≤◌, ◌≡◌, ◌↔◌, Bool, List, length}
+use Rattle.std.specs.Prelude.{ℕ, ◌≤◌, ◌≡◌, ◌↔◌, Bool, List, length, Ok}
 use Rattle.settings.specs.declared.Settings.{Settings}
 use Rattle.settings.specs.Units.{unit_count, square_at}
 use Rattle.tree.specs.Splits.{bit}
 use Rattle.laws.specs.Every.{Every}
 use Rattle.laws.specs.Geometry.{copies, InPipeline, pipeline_side}
 use Rattle.unit.specs.Answers.{accepted}
+use Rattle.unit.specs.Luma.{units_of}
 use Rattle.unit.specs.Writer.{write_flags}
 use Rattle.sessions.specs.Samples as samples
 use Rattle.picture.specs.declared.Session.{Session}
-use Rattle.picture.specs.declared.Opened.TheVariants.{Fresh}
 use Rattle.picture.specs.State.{Call}
 use Rattle.picture.specs.Session.{opening}
 use Rattle.picture.specs.Lists.{Taken, bytes_of_unit, accepted_in, joined, flag_lists}
@@ -34,7 +34,7 @@ TurnsBack s u =
     → write_flags s u.address (bytes_of_unit u) buffer ≡ accepted (length u.flags) u.flags buffer
 
 -- what holds after a list of calls, by the units accepted in it
-pub record After (s : Settings) (t : Session) (calls : List Call) : Type 0 where
+pub record After (s : Settings) (t : Session Settings) (calls : List Call) : Type 0 where
   -- "every sample of the units accepted in it lies in exactly one row of the joined table, and no row reaches outside
   -- these samples"
   pub covered : (px py : ℕ) → copies px py (joined (accepted_in t calls)) ≡ bit (in_units s (accepted_in t calls) px py) 1
@@ -55,4 +55,4 @@ pub record After (s : Settings) (t : Session) (calls : List Call) : Type 0 where
 
 -- "A fresh session is what an accepted opening yields"
 abbrev pub Demand3 : Type 0
-Demand3 = (s : Settings) (t : Session) → opening s ≡ Fresh t → (calls : List Call) → After s t calls
+Demand3 = (s : Settings) (t : Session Settings) → opening units_of s ≡ Ok t → (calls : List Call) → After s t calls

@@ -1,9 +1,11 @@
 -- Lists of unit calls, each on the session that the one before it yielded, and the joined table.
 use Rattle.std.specs.Prelude.{ℕ, ◌*◌, List, take}
 use Rattle.std.proofs.Math.Option.{Option, none, some}
+use Rattle.settings.specs.declared.Settings.{Settings}
 use Rattle.tree.specs.Rows.{Row, rows_at}
-use Rattle.unit.specs.declared.Answer.{Answer}
-use Rattle.unit.specs.declared.Answer.TheVariants.{Accepted, Refused}
+use Rattle.unit.specs.Answers.{Answer}
+use Rattle.refusals.specs.Said.{Accepted, Refused}
+use Rattle.unit.specs.Luma.{units_of}
 use Rattle.sessions.specs.Lists as lists
 use Rattle.picture.specs.declared.Session.{Session}
 use Rattle.picture.specs.State.{Call}
@@ -32,14 +34,14 @@ taken c (Accepted count) left = some (record { address = c.address; flags = c.fl
 taken c (Refused number place) left = none
 
 -- the unit that a call on a session accepts, if it does, and the session that the call yields
-abbrev pub takes : Session → Call → Option Taken
-takes t c = taken c (unit_call t c).answer (unit_call t c).buffer
+abbrev pub takes : Session Settings → Call → Option Taken
+takes t c = taken c (unit_call units_of t c).answer (unit_call units_of t c).buffer
 
-abbrev pub yields : Session → Call → Session
-yields t c = following t (unit_call t c).answer
+abbrev pub yields : Session Settings → Call → Session Settings
+yields t c = following t (unit_call units_of t c).answer
 
 -- the units accepted in a list of calls from a session on, in order
-abbrev pub accepted_in : Session → List Call → List Taken
+abbrev pub accepted_in : Session Settings → List Call → List Taken
 accepted_in t calls = lists.accepted_in takes yields t calls
 
 -- "The joined table of a list of unit calls is the rows of all units accepted in it, in order"

@@ -4,7 +4,7 @@ use Rattle.settings.specs.declared.Settings.{Settings}
 use Rattle.settings.specs.declared.Square.{Square}
 use Rattle.tree.specs.Kind.{Kind}
 use Rattle.laws.specs.Geometry.{pipeline_side}
-use Rattle.unit.specs.declared.Answer.{Answer}
+use Rattle.unit.specs.Answers.{Answer}
 use Rattle.unit.specs.Answers.{Outcome, accepted}
 use Rattle.unit.specs.Units.{Units}
 use Rattle.unit.specs.Luma.{units_of}

@@ -1,15 +1,13 @@
 -- The state of a picture session, whatever its settings: the unit call, with document 01's refusals from the state.
+use Rattle.std.specs.Prelude.{Ok, Err}
 use Rattle.std.specs.Prelude.{ℕ, ◌+◌, ◌≡◌, cond, not, List, ltb, eqb}
-use Rattle.settings.specs.declared.Count.{Count}
-use Rattle.settings.specs.declared.Count.TheVariants as count
+use Rattle.settings.specs.Units.{Count}
 use Rattle.settings.specs.Units.{counted_by}
-use Rattle.unit.specs.declared.Answer.{Answer}
-use Rattle.unit.specs.declared.Answer.TheVariants.{Accepted, Refused}
+use Rattle.unit.specs.Answers.{Answer}
+use Rattle.refusals.specs.Said.{Said, Accepted, Refused}
 use Rattle.unit.specs.Answers.{Outcome, refused}
 use Rattle.unit.specs.Units.{Units}
 use Rattle.unit.specs.Reader.{read_in}
-use Rattle.picture.specs.declared.state.State.{State}
-use Rattle.picture.specs.declared.state.State.TheVariants as state
 
 -- "opening yields the settings given, with address 0 due", which is a fresh session, or it is refused with a number, that of the settings' refusal
 unfoldable pub opened_by : {Opened : Type 0} → Units → (fresh : Opened) (refused : ℕ → Opened) → Opened
@@ -24,18 +22,22 @@ pub record Call : Type 0 where
 abbrev pub call : ℕ → List ℕ → List ℕ → Call
 call address flags buffer = record { address = address; flags = flags; buffer = buffer }
 
+-- the unit is due, or a refusal's number and place
+abbrev pub State : Type 0
+State = Said Unit
+
 -- Whether the unit at an address is due, by the count of units and the due address: 22 where the settings fail, or the due address exceeds the unit count;
 -- 20 where the picture is complete, "After the last address the due one is the unit count"; 21 where the address isn't the due one, the place the due one.
 unfoldable pub state_of : Count → (due address : ℕ) → State
-state_of (count.Refused number) due address = state.Refused 22 0
-state_of (count.Units units) due address =
-    cond (ltb units due) (state.Refused 22 0)
-    (cond (eqb due units) (state.Refused 20 0) (cond (not (eqb address due)) (state.Refused 21 due) state.Due))
+state_of (Err number) due address = Refused 22 0
+state_of (Ok units) due address =
+    cond (ltb units due) (Refused 22 0)
+    (cond (eqb due units) (Refused 20 0) (cond (not (eqb address due)) (Refused 21 due) (Accepted tt)))
 
 -- a call on this state: its refusal, or the reading of the unit
 abbrev pub on_state : State → Call → Outcome → Outcome
-on_state state.Due c reading = reading
-on_state (state.Refused number place) c reading = refused number place c.buffer
+on_state (Accepted _) c reading = reading
+on_state (Refused number place) c reading = refused number place c.buffer
 
 -- A unit call's answer, and the row buffer afterwards: 22, 20, 21 in this order, then the reading of the unit. Of that, 11 to 14 are left: the refusals before
 -- them are never met there.
