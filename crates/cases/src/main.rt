@@ -2,12 +2,11 @@
 // The expected output, `stdout`, is written from the paper. P1 to P10 are theorems (crates/unit/specs/Cases.antt).
 #![tactic(auto)]
 
-ghost use Rattle.std.specs.Prelude.{◌≡◌, ◌+◌, ◌≤◌, ◌<◌, min};
+ghost use Rattle.std.specs.Prelude.{◌≡◌, ◌≤◌};
 ghost use Rattle.unit.specs.Cases as Cases;
 
-use settings::{Count, Located, Settings};
+use settings::Settings;
 use std::io;
-use unit::Answer;
 
 // Setting A of document 01, at a width.
 fn setting_a(width: u32) -> Settings
@@ -25,30 +24,25 @@ fn setting_a(width: u32) -> Settings
     }
 }
 
-fn say(rt: &impl Print, text: &str, n: u64) -> io::Result<()> {
-    print!(rt; "{text}{n}")
-}
-
-fn end_line(rt: &impl Print) -> io::Result<()> {
-    println!(rt; "")
-}
-
-fn say_refusal(rt: &impl Print, text: &str, s: Settings) -> io::Result<()> {
-    say(rt, text, settings::refusal(s) as u64)?;
-    end_line(rt)?;
-    Ok(())
+// The number of the rule that settings break first, or 0.
+fn say_check(rt: &impl Print, text: &str, s: Settings) -> io::Result<()> {
+    match settings::check(s) {
+        Ok(()) => println!(rt; "{text}0"),
+        Err(reason) => println!(rt; "{text}{}", reason.number()),
+    }
 }
 
 fn say_checks(rt: &impl Print) -> io::Result<()> {
-    say_refusal(rt, "setting A: ", setting_a(64))?;
-    say_refusal(rt, "A with width 68: ", setting_a(68))?;
-    let mut quads = setting_a(72);
-    quads.minqt = 16;
-    quads.maxmtt = 0;
-    say_refusal(rt, "A with MinQt 16, M 0, width 72: ", quads)?;
-    quads.width = 80;
-    say_refusal(rt, "A with MinQt 16, M 0, width 80: ", quads)?;
-    Ok(())
+    say_check(rt, "setting A: ", setting_a(64))?;
+    say_check(rt, "A with width 68: ", setting_a(68))?;
+    let quads = Settings {
+        minqt: 16,
+        maxmtt: 0,
+        ..setting_a(72)
+    };
+    say_check(rt, "A with MinQt 16, M 0, width 72: ", quads)?;
+    let wider = Settings { width: 80, ..quads };
+    say_check(rt, "A with MinQt 16, M 0, width 80: ", wider)
 }
 
 // A camera's settings.
@@ -68,75 +62,36 @@ fn camera() -> Settings
 }
 
 fn say_units(rt: &impl Print) -> io::Result<()> {
-    match settings::unit_count(camera()) {
-        Count::Units(n) => say(rt, "units of a camera's picture: ", n as u64)?,
-        Count::Refused(k) => say(rt, "refused: ", k as u64)?,
+    match unit::unit_count(camera()) {
+        Ok(n) => println!(rt; "units of a camera's picture: {n}")?,
+        Err(reason) => println!(rt; "refused: {}", reason.number())?,
     }
-    end_line(rt)?;
     match settings::unit_at(setting_a(72), 1) {
-        Located::At(q) => {
-            say(rt, "P5's unit starts at: ", q.x as u64)?;
-            say(rt, " ", q.y as u64)?;
-        }
-        Located::Refused(k) => say(rt, "refused: ", k as u64)?,
+        Ok(q) => println!(rt; "P5's unit starts at: {} {}", q.x, q.y)?,
+        Err(reason) => println!(rt; "refused: {}", reason.number())?,
     }
-    end_line(rt)?;
     match settings::unit_at(setting_a(72), 2) {
-        Located::At(q) => say(rt, "unit at: ", q.x as u64)?,
-        Located::Refused(k) => say(rt, "the unit after it: ", k as u64)?,
+        Ok(q) => println!(rt; "unit at: {}", q.x),
+        Err(reason) => println!(rt; "the unit after it: {}", reason.number()),
     }
-    end_line(rt)?;
-    Ok(())
-}
-
-fn wide(x: u8) -> u64
-    ensures { (result ≡ x) × (result < 256) }
-{
-    x as u64
-}
-
-// A number of a row, of 8 bits and of 16.
-fn byte(rows: &[u8; 64], at: usize) -> u64
-    ensures { result < 256 }
-{
-    if at < 64 { wide(rows[at]) } else { 0 }
-}
-
-fn two_bytes(rows: &[u8; 64], at: usize) -> u64
-    requires { at < 64 }
-    ensures { result < 65536 }
-{
-    byte(rows, at) + byte(rows, at + 1) * 256
 }
 
 // A row in decimals: X, Y, exponents, depths.
-fn say_row(rt: &impl Print, rows: &[u8; 64], at: usize) -> io::Result<()>
-    requires { at + 8 ≤ 64 }
-{
-    say(rt, "  (", two_bytes(rows, at))?;
-    say(rt, ", ", two_bytes(rows, at + 2))?;
-    say(rt, ", ", byte(rows, at + 4))?;
-    say(rt, ", ", byte(rows, at + 5))?;
-    say(rt, ", ", byte(rows, at + 6))?;
-    say(rt, ", ", byte(rows, at + 7))?;
-    rt.print(")\n")?;
-    Ok(())
+fn say_row(rt: &impl Print, row: &[u8]) -> io::Result<()> {
+    let [x, x_high, y, y_high, wide, high, quads, cuts] = row else {
+        return Ok(());
+    };
+    let x = u16::from_le_bytes([*x, *x_high]);
+    let y = u16::from_le_bytes([*y, *y_high]);
+    println!(rt; "  ({x}, {y}, {wide}, {high}, {quads}, {cuts})")
 }
 
 // The rows that a reading answered: 8 at most.
 fn say_rows(rt: &impl Print, rows: &[u8; 64], count: usize) -> io::Result<()> {
-    for i in 0..8 {
-        if i < count {
-            say_row(rt, rows, i * 8)?;
-        }
+    for row in rows.chunks(8).take(count) {
+        say_row(rt, row)?;
     }
     Ok(())
-}
-
-fn within(room: usize) -> usize
-    ensures { (result ≡ min room 64) × (result ≤ 64) }
-{
-    if room < 64 { room } else { 64 }
 }
 
 // Reads a unit into a buffer of so many bytes, 64 at most, and prints the answer, and the rows of an accepted unit.
@@ -147,59 +102,43 @@ fn say_reading(
     address: usize,
     flags: &[u8],
     room: usize,
-) -> io::Result<()> {
-    rt.print(text)?;
+) -> io::Result<()>
+    requires { room ≤ 64 }
+{
     let mut rows = [0u8; 64];
-    let n = within(room);
-    match reader::read_unit(s, address, flags, &mut rows[..n]) {
-        Answer::Refused(number, place) => {
-            say(rt, "", number as u64)?;
-            say(rt, " at ", place as u64)?;
-            end_line(rt)?;
+    match reader::read_unit(s, address, flags, &mut rows[..room]) {
+        Ok(count) => {
+            println!(rt; "{text}rows {count}")?;
+            say_rows(rt, &rows, count)
         }
-        Answer::Accepted(count) => {
-            say(rt, "rows ", count as u64)?;
-            end_line(rt)?;
-            say_rows(rt, &rows, count)?;
-        }
+        Err(refusal) => println!(rt; "{text}{refusal}"),
     }
-    Ok(())
 }
 
-// Turns rows back into a buffer of so many bytes, 64 at most, and prints the answer, and the flags of accepted rows.
+// Turns rows back into a buffer of 64 bytes, and prints the answer, and the flags of accepted rows.
 fn say_back(
     rt: &impl Print,
     text: &str,
     s: Settings,
     address: usize,
     rows: &[u8],
-    room: usize,
 ) -> io::Result<()> {
-    rt.print(text)?;
     let mut flags = [0u8; 64];
-    let n = within(room);
-    match writer::write_flags(s, address, rows, &mut flags[..n]) {
-        Answer::Refused(number, place) => {
-            say(rt, "", number as u64)?;
-            say(rt, " at ", place as u64)?;
+    match writer::write_flags(s, address, rows, &mut flags) {
+        Ok(count) => {
+            print!(rt; "{text}flags {count}")?;
+            say_flags(rt, &flags, count)
         }
-        Answer::Accepted(count) => {
-            say(rt, "flags ", count as u64)?;
-            say_flags(rt, &flags, count)?;
-        }
+        Err(refusal) => println!(rt; "{text}{refusal}"),
     }
-    end_line(rt)?;
-    Ok(())
 }
 
-// So many flags, 64 at most.
+// So many flags, 64 at most, and the end of their line.
 fn say_flags(rt: &impl Print, flags: &[u8; 64], count: usize) -> io::Result<()> {
-    for i in 0..64 {
-        if i < count {
-            say(rt, " ", byte(flags, i))?;
-        }
+    for flag in flags.iter().take(count) {
+        print!(rt; " {flag}")?;
     }
-    Ok(())
+    println!(rt; "")
 }
 
 // A unit inside the picture, and one at its edge.
@@ -232,7 +171,7 @@ fn say_refusals(rt: &impl Print) -> io::Result<()> {
     Ok(())
 }
 
-// Reads flags into a buffer of 64 bytes and turns its first rows back.
+// Reads flags into a buffer of 64 bytes and turns so many bytes of its rows back.
 fn say_round(
     rt: &impl Print,
     text: &str,
@@ -240,26 +179,14 @@ fn say_round(
     address: usize,
     flags: &[u8],
     bytes: usize,
-) -> io::Result<()> {
+) -> io::Result<()>
+    requires { bytes ≤ 64 }
+{
     let mut rows = [0u8; 64];
-    reader::read_unit(s, address, flags, &mut rows);
-    say_front_back(rt, text, s, address, &rows, bytes)?;
-    Ok(())
-}
-
-// Turns the first bytes of a table back.
-fn say_front_back(
-    rt: &impl Print,
-    text: &str,
-    s: Settings,
-    address: usize,
-    rows: &[u8],
-    bytes: usize,
-) -> io::Result<()> {
-    if bytes <= rows.len() {
-        say_back(rt, text, s, address, &rows[..bytes], 64)?;
+    match reader::read_unit(s, address, flags, &mut rows) {
+        Ok(_) => say_back(rt, text, s, address, &rows[..bytes]),
+        Err(refusal) => println!(rt; "{text}{refusal}"),
     }
-    Ok(())
 }
 
 fn say_ways_back(rt: &impl Print) -> io::Result<()> {
@@ -319,10 +246,8 @@ const CUTS: [u8; 32] = [
 
 fn say_refused_back(rt: &impl Print) -> io::Result<()> {
     let a = setting_a(64);
-    let exchanged = EXCHANGED;
-    let cuts = CUTS;
-    say_back(rt, "P2's rows, two exchanged: ", a, 0, &exchanged, 64)?;
-    say_back(rt, "a quad's rows with binary depths: ", a, 0, &cuts, 64)?;
+    say_back(rt, "P2's rows, two exchanged: ", a, 0, &EXCHANGED)?;
+    say_back(rt, "a quad's rows with binary depths: ", a, 0, &CUTS)?;
     Ok(())
 }
 

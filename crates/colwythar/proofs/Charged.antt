@@ -4,13 +4,12 @@ use mathlib.Core.Path.{◌≡◌, sym, ap, subst, ◌∙◌}
 use mathlib.Core.List.{List}
 use lib.ListN.{length, set}
 use lib.Seq.{set-get_or}
-use Rattle.unit.specs.declared.Answer.TheVariants.{Refused}
+use Rattle.refusals.specs.Said.{Refused}
 use Rattle.unit.specs.Answers.{Outcome}
 use Rattle.unit.specs.Units.{Units}
 use Rattle.picture.specs.State.{Call, next_due}
 use Rattle.bank.specs.declared.accounts.Account.{Account}
-use Rattle.bank.specs.declared.accounts.Left.{Left}
-use Rattle.bank.specs.Accounts.{none, left_of}
+use Rattle.bank.specs.Accounts.{Left, none, left_of}
 use Rattle.bank.specs.Bank.{account_of, accounts_after}
 use Rattle.bank.proofs.Grants.{grant_absent, grant_there}
 use Rattle.colwythar.specs.Words.{answer_words, Follows}

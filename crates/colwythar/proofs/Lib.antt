@@ -1,4 +1,2 @@
-pub mod Passing
 pub mod Told
 pub mod Charged
-pub mod Elements

@@ -22,7 +22,6 @@ use Rattle.bank.specs.GrantFaults.{grant_numbers}
 use Rattle.bank.proofs.RowAllowance.{row_allowance}
 use Rattle.h265settings.specs.Checks as h265s
 use Rattle.h265settings.proofs.Sound.{h265_sound}
-use Rattle.h265.specs.Session as h265
 use Rattle.colwythar.specs.Words.{Tells, Told}
 
 tells : {us : Units} → Sound us → lacks 0 (read_numbers us.numbers) ≡ true → lacks 0 (turn_numbers us.numbers) ≡ true → Tells us
@@ -43,5 +42,5 @@ told = record {
   grants = λ limit accounts t camera c. zero_accepts grant_numbers refl _ (row_allowance.decided limit accounts t camera c).uses;
   opens = λ s. zero_picked opened_number _ _ (settings_refusal s) refl refl;
   h265_units = λ s. tells (h265_sound s) refl refl;
-  h265_opens = λ s. zero_picked h265.opened_number _ _ (h265s.settings_refusal s) refl refl;
+  h265_opens = λ s. zero_picked opened_number _ _ (h265s.settings_refusal s) refl refl;
 }

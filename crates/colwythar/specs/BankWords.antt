@@ -3,8 +3,7 @@ use Rattle.std.specs.Prelude.{ℕ, ◌≡◌, List}
 use Rattle.unit.specs.Units.{Units}
 use Rattle.picture.specs.State.{Call, call_in}
 use Rattle.bank.specs.declared.accounts.Account.{Account}
-use Rattle.bank.specs.declared.accounts.Left.{Left}
-use Rattle.bank.specs.Accounts.{charged}
+use Rattle.bank.specs.Accounts.{Left, charged}
 use Rattle.bank.specs.Granting.{on_account}
 use Rattle.bank.specs.Bank.{grant_in, accounts_after}
 use Rattle.colwythar.specs.Words.{Follows}

@@ -1,29 +1,22 @@
 // The C interface to a bank of cameras: the grant and the new period on a lent list of accounts. These two are the only
 // functions over that list; what they do with an account is crate bank's, by value.
 ghost use Rattle.std.specs.Prelude.{◌≡◌};
-ghost use Rattle.unit.specs.declared.Answer.TheVariants.{Refused as Answer-as-Refused};
 ghost use Rattle.settings.specs.Words.{settings_in};
 ghost use Rattle.unit.specs.Luma.{units_of};
 ghost use Rattle.picture.specs.State.{call};
+ghost use Rattle.bank.specs.Accounts.{left_in};
 ghost use Rattle.bank.specs.Bank.{new_period};
-ghost use Rattle.colwythar.specs.Words.{answer_words};
 ghost use Rattle.colwythar.specs.BankWords.{ChargesOne, Charges};
 
 use crate::put_answer;
-use bank::{Account, Left};
+use bank::Account;
 use picture::Session;
-use unit::Answer;
-
-// The answer where the camera has no account.
-fn no_account(answer: &mut [u64; 2])
-    ensures { answer.new ≡ answer_words (Answer-as-Refused 37 0) }
-{
-    put_answer(Answer::Refused(37, 0), answer);
-}
+use refusals::Reason;
+use settings::Settings;
 
 // The grant on the camera's own account, by what is left of the common part: the account afterwards.
 fn grant_unit(
-    left: Left,
+    left: Option<u64>,
     own: Account,
     settings: &[u32; 8],
     due: &mut u64,
@@ -32,18 +25,15 @@ fn grant_unit(
     rows: &mut [u8],
     answer: &mut [u64; 2],
 ) -> Account
-    ensures { ChargesOne left own (units_of (settings_in settings.now)) due.old (call address flags.now rows.old) result due.new answer.new rows.new }
+    ensures { ChargesOne (left_in left) own (units_of (settings_in settings.now)) due.old (call address flags.now rows.old) result due.new answer.new rows.new }
 {
     let session = Session {
-        settings: settings::from_words(settings),
+        settings: Settings::from(*settings),
         due: *due as usize,
     };
     let granted = bank::grant(left, own, session, address as usize, flags, rows);
-    let called = granted.called;
-    let next = called.session;
-    *due = next.due as u64;
-    let a = called.answer;
-    put_answer(a, answer);
+    *due = granted.called.session.due as u64;
+    put_answer(granted.called.answer, answer);
     granted.account
 }
 
@@ -65,15 +55,12 @@ pub extern "C" fn colwythar_grant(
     ensures { Charges (units_of (settings_in settings.now)) due.old limit accounts.old camera (call address flags.now rows.old) due.new answer.new rows.new accounts.new }
 {
     if accounts.len() <= camera {
-        no_account(answer);
+        put_answer(Err(Reason::NoAccount.at(0)), answer);
         return;
     }
-    let mut left = bank::all_left(limit);
-    let mut k = 0;
-    while k < accounts.len() {
-        let a = accounts[k];
-        left = bank::left_after(left, a);
-        k = k + 1;
+    let mut left = Some(limit);
+    for a in accounts.iter() {
+        left = bank::left_after(left, *a);
     }
     let own = accounts[camera];
     accounts[camera] = grant_unit(left, own, settings, due, address, flags, rows, answer);
@@ -84,10 +71,7 @@ pub extern "C" fn colwythar_grant(
 pub extern "C" fn colwythar_new_period(accounts: &mut [Account])
     ensures { accounts.new ≡ new_period accounts.old }
 {
-    let mut i = 0;
-    while i < accounts.len() {
-        let a = accounts[i];
-        accounts[i] = bank::cleared(a);
-        i = i + 1;
+    for a in accounts.iter_mut() {
+        *a = bank::cleared(*a);
     }
 }

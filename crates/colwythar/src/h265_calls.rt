@@ -4,11 +4,12 @@ ghost use Rattle.picture.specs.State.{call};
 ghost use Rattle.h265settings.specs.Units.{units_of, count_of};
 ghost use Rattle.h265settings.specs.Words.{settings_in};
 ghost use Rattle.h265.specs.Calls.{read_unit, write_flags};
-ghost use Rattle.h265.specs.Session.{opening, opened_number};
-ghost use Rattle.colwythar.specs.Words.{h265_due_after, count_words, Leaves, OpensTo, Moves};
+ghost use Rattle.picture.specs.Session.{opening, opened_number};
+ghost use Rattle.colwythar.specs.Words.{due_after, count_words, Leaves, OpensTo, Moves};
 
-use crate::{number_of, put_answer, units_of};
-use h265::{Opened, Session};
+// Stays: each call of the C interface is a function of its own, with arguments in C's order.
+use crate::{call_unit, count_units, open_session, put_answer};
+use h265settings::Settings;
 
 // Reads the flags of a unit into the row buffer: refusals 34, 35, 7, 8 and 10 to 14, or the number of rows.
 #[unsafe(no_mangle)]
@@ -21,8 +22,8 @@ pub extern "C" fn colwythar_h265_read_unit(
 )
     ensures { Leaves (read_unit (settings_in settings.now) address flags.now rows.old) answer.new rows.new }
 {
-    let s = h265settings::from_words(settings);
-    let a = h265::read_unit(s, address as usize, flags, rows);
+    let s = Settings::from(*settings);
+    let a = reader::read_unit(s, address as usize, flags, rows);
     put_answer(a, answer);
 }
 
@@ -38,30 +39,18 @@ pub extern "C" fn colwythar_h265_write_flags(
 )
     ensures { Leaves (write_flags (settings_in settings.now) address rows.now flags.old) answer.new flags.new }
 {
-    let s = h265settings::from_words(settings);
+    let s = Settings::from(*settings);
     let a = h265::write_flags(s, address as usize, rows, flags);
     put_answer(a, answer);
-}
-
-// The address due after an opening, which was `due` before it.
-fn due_after(opened: Opened, due: u64) -> u64
-    ensures { result ≡ h265_due_after opened due }
-{
-    match opened {
-        Opened::Fresh(session) => session.due as u64,
-        Opened::Refused(_) => due,
-    }
 }
 
 // Opens the session of a picture: refusals 34, 35, 7 and 8, or 0. The session is the settings and the due address, which an
 // accepted opening sets.
 #[unsafe(no_mangle)]
 pub extern "C" fn colwythar_h265_open(settings: &[u32; 4], due: &mut u64, answer: &mut [u64; 2])
-    ensures { OpensTo (opened_number (opening (settings_in settings.now))) (h265_due_after (opening (settings_in settings.now)) due.old) due.new answer.new }
+    ensures { OpensTo (opened_number (opening units_of (settings_in settings.now))) (due_after (opening units_of (settings_in settings.now)) due.old) due.new answer.new }
 {
-    let opened = Session::open(h265settings::from_words(settings));
-    *due = due_after(opened, *due);
-    *answer = [opened.number() as u64, 0];
+    open_session(Settings::from(*settings), due, answer);
 }
 
 // How many units a picture has: refusals 34, 35, 7 and 8, or the number of units.
@@ -69,8 +58,7 @@ pub extern "C" fn colwythar_h265_open(settings: &[u32; 4], due: &mut u64, answer
 pub extern "C" fn colwythar_h265_unit_count(settings: &[u32; 4], answer: &mut [u64; 2])
     ensures { answer.new ≡ count_words (count_of (settings_in settings.now)) }
 {
-    let count = h265settings::unit_count(h265settings::from_words(settings));
-    *answer = [number_of(count), units_of(count)];
+    count_units(Settings::from(*settings), answer);
 }
 
 // The unit call on the session of these settings and the due address: refusals 22, 20, 21 and 11 to 14, or the number
@@ -86,13 +74,5 @@ pub extern "C" fn colwythar_h265_unit(
 )
     ensures { Moves (units_of (settings_in settings.now)) due.old (call address flags.now rows.old) due.new answer.new rows.new }
 {
-    let session = Session {
-        settings: h265settings::from_words(settings),
-        due: *due as usize,
-    };
-    let called = session.unit(address as usize, flags, rows);
-    let next = called.session;
-    *due = next.due as u64;
-    let a = called.answer;
-    put_answer(a, answer);
+    call_unit(Settings::from(*settings), due, address, flags, rows, answer);
 }

@@ -6,7 +6,8 @@ mod bank_calls;
 mod h265_calls;
 
 ghost use Rattle.std.specs.Prelude.{◌≡◌};
-ghost use Rattle.settings.specs.Units.{count_of, count_number};
+ghost use Rattle.refusals.specs.Said.{said};
+ghost use Rattle.settings.specs.Units.{counted_by, count_of};
 ghost use Rattle.settings.specs.Words.{settings_in};
 ghost use Rattle.unit.specs.Luma.{units_of};
 ghost use Rattle.unit.specs.Reader.{read_unit};
@@ -15,16 +16,21 @@ ghost use Rattle.page.specs.Page.{write_page};
 ghost use Rattle.compare.specs.Compare.{compare_unit};
 ghost use Rattle.picture.specs.State.{call};
 ghost use Rattle.picture.specs.Session.{opening, opened_number};
-ghost use Rattle.colwythar.specs.Words.{answer_words, due_after, units_in, count_words, Leaves, OpensTo, Moves};
+ghost use Rattle.colwythar.specs.Words.{answer_words, due_after, count_words, Leaves, OpensTo, Moves};
 
-use picture::{Opened, Session};
-use settings::Count;
-use unit::Answer;
+// Stays: each call of the C interface is a function of its own, with arguments in C's order.
+use picture::Session;
+use settings::Settings;
+use unit::{Answer, Coding};
 
+// The words of an answer: 0 and what is answered, or the number and the place of a refusal.
 pub(crate) fn put_answer(a: Answer, answer: &mut [u64; 2])
-    ensures { answer.new ≡ answer_words a }
+    ensures { answer.new ≡ answer_words (said a) }
 {
-    *answer = [a.number() as u64, a.value() as u64];
+    *answer = match a {
+        Ok(given) => [0, given as u64],
+        Err(refusal) => [refusal.reason.number() as u64, refusal.place as u64],
+    };
 }
 
 // Reads the flags of a unit into the row buffer: refusals 1 to 14, or the number of rows.
@@ -38,7 +44,7 @@ pub extern "C" fn colwythar_read_unit(
 )
     ensures { Leaves (read_unit (settings_in settings.now) address flags.now rows.old) answer.new rows.new }
 {
-    let s = settings::from_words(settings);
+    let s = Settings::from(*settings);
     let a = reader::read_unit(s, address as usize, flags, rows);
     put_answer(a, answer);
 }
@@ -55,7 +61,7 @@ pub extern "C" fn colwythar_write_flags(
 )
     ensures { Leaves (write_flags (settings_in settings.now) address rows.now flags.old) answer.new flags.new }
 {
-    let s = settings::from_words(settings);
+    let s = Settings::from(*settings);
     let a = writer::write_flags(s, address as usize, rows, flags);
     put_answer(a, answer);
 }
@@ -72,7 +78,7 @@ pub extern "C" fn colwythar_page(
 )
     ensures { Leaves (write_page (settings_in settings.now) address rows.now page.old) answer.new page.new }
 {
-    let s = settings::from_words(settings);
+    let s = Settings::from(*settings);
     let a = page::write_page(s, address as usize, rows, page);
     put_answer(a, answer);
 }
@@ -80,9 +86,9 @@ pub extern "C" fn colwythar_page(
 // The answer of a comparison. It stands for itself so that the compiler meets the comparison after the calls that read, and
 // keeps the search as it was (docs/DECISIONS.md).
 fn tables_compared(settings: &[u32; 8], address: u64, first: &[u8], second: &[u8]) -> Answer
-    ensures { result ≡ compare_unit (settings_in settings.now) address first.now second.now }
+    ensures { said result ≡ compare_unit (settings_in settings.now) address first.now second.now }
 {
-    let s = settings::from_words(settings);
+    let s = Settings::from(*settings);
     compare::compare_unit(s, address as usize, first, second)
 }
 
@@ -102,13 +108,16 @@ pub extern "C" fn colwythar_compare(
     put_answer(a, answer);
 }
 
-// The address due after an opening, which was `due` before it.
-fn due_after(opened: Opened, due: u64) -> u64
-    ensures { result ≡ due_after opened due }
+// An opening with settings of any coding: its words, and the address due after it.
+pub(crate) fn open_session<S: Coding>(settings: S, due: &mut u64, answer: &mut [u64; 2])
+    ensures { OpensTo (opened_number (opening S.units settings)) (due_after (opening S.units settings) due.old) due.new answer.new }
 {
-    match opened {
-        Opened::Fresh(session) => session.due as u64,
-        Opened::Refused(_) => due,
+    match Session::open(settings) {
+        Ok(session) => {
+            *due = session.due as u64;
+            *answer = [0, 0];
+        }
+        Err(reason) => *answer = [reason.number() as u64, 0],
     }
 }
 
@@ -116,31 +125,19 @@ fn due_after(opened: Opened, due: u64) -> u64
 // accepted opening sets.
 #[unsafe(no_mangle)]
 pub extern "C" fn colwythar_open(settings: &[u32; 8], due: &mut u64, answer: &mut [u64; 2])
-    ensures { OpensTo (opened_number (opening (settings_in settings.now))) (due_after (opening (settings_in settings.now)) due.old) due.new answer.new }
+    ensures { OpensTo (opened_number (opening units_of (settings_in settings.now))) (due_after (opening units_of (settings_in settings.now)) due.old) due.new answer.new }
 {
-    let opened = Session::open(settings::from_words(settings));
-    *due = due_after(opened, *due);
-    *answer = [opened.number() as u64, 0];
+    open_session(Settings::from(*settings), due, answer);
 }
 
-// The number of a count of units: 0, or the refusal's.
-pub(crate) fn number_of(count: Count) -> u64
-    ensures { result ≡ count_number count }
+// How many units a picture has with settings of any coding, as words.
+pub(crate) fn count_units<S: Coding>(settings: S, answer: &mut [u64; 2])
+    ensures { answer.new ≡ count_words (counted_by (S.units settings).refusal (S.units settings).count) }
 {
-    match count {
-        Count::Units(_) => 0,
-        Count::Refused(number) => number as u64,
-    }
-}
-
-// Its units, 0 where it is a refusal.
-pub(crate) fn units_of(count: Count) -> u64
-    ensures { result ≡ units_in count }
-{
-    match count {
-        Count::Units(n) => n as u64,
-        Count::Refused(_) => 0,
-    }
+    *answer = match unit::unit_count(settings) {
+        Ok(n) => [0, n as u64],
+        Err(reason) => [reason.number() as u64, 0],
+    };
 }
 
 // How many units a picture has: refusals 1 to 9, or the number of units.
@@ -148,8 +145,27 @@ pub(crate) fn units_of(count: Count) -> u64
 pub extern "C" fn colwythar_unit_count(settings: &[u32; 8], answer: &mut [u64; 2])
     ensures { answer.new ≡ count_words (count_of (settings_in settings.now)) }
 {
-    let count = settings::unit_count(settings::from_words(settings));
-    *answer = [number_of(count), units_of(count)];
+    count_units(Settings::from(*settings), answer);
+}
+
+// The unit call on the session of settings of any coding and the due address: its words, and the address due after it.
+pub(crate) fn call_unit<S: Coding>(
+    settings: S,
+    due: &mut u64,
+    address: u64,
+    flags: &[u8],
+    rows: &mut [u8],
+    answer: &mut [u64; 2],
+)
+    ensures { Moves (S.units settings) due.old (call address flags.now rows.old) due.new answer.new rows.new }
+{
+    let session = Session {
+        settings,
+        due: *due as usize,
+    };
+    let called = session.unit(address as usize, flags, rows);
+    *due = called.session.due as u64;
+    put_answer(called.answer, answer);
 }
 
 // The unit call on the session of these settings and the due address: refusals 22, 20, 21 and 11 to 14, or the number
@@ -165,13 +181,5 @@ pub extern "C" fn colwythar_unit(
 )
     ensures { Moves (units_of (settings_in settings.now)) due.old (call address flags.now rows.old) due.new answer.new rows.new }
 {
-    let session = Session {
-        settings: settings::from_words(settings),
-        due: *due as usize,
-    };
-    let called = session.unit(address as usize, flags, rows);
-    let next = called.session;
-    *due = next.due as u64;
-    let a = called.answer;
-    put_answer(a, answer);
+    call_unit(Settings::from(*settings), due, address, flags, rows, answer);
 }

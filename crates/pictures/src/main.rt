@@ -5,10 +5,9 @@
 ghost use Rattle.std.specs.Prelude.{◌≡◌, ◌<◌};
 ghost use Rattle.unit.specs.Cases as Cases;
 
-use picture::{Called, Opened, Session};
+use picture::{Called, Session};
 use settings::Settings;
 use std::io;
-use unit::Answer;
 
 // Setting A of document 01 with another picture.
 fn setting_a(width: u32, height: u32) -> Settings
@@ -26,76 +25,61 @@ fn setting_a(width: u32, height: u32) -> Settings
     }
 }
 
-fn say(rt: &impl Print, text: &str, n: u64) -> io::Result<()> {
-    print!(rt; "{text}{n}")
-}
-
-// An answer: a refusal's number and place, or the number of rows.
-fn say_called(rt: &impl Print, text: &str, c: Called) -> io::Result<Session> {
-    let answer = c.answer;
-    match answer {
-        Answer::Refused(number, place) => {
-            say(rt, text, number as u64)?;
-            say(rt, " at ", place as u64)?;
-        }
-        Answer::Accepted(count) => {
-            say(rt, text, count as u64)?;
-            rt.print(" rows")?;
-        }
+// A call's answer: a refusal's number and place, or the number of rows. Then the session that the call yields.
+fn say_called(
+    rt: &impl Print,
+    text: &str,
+    called: Called<Settings>,
+) -> io::Result<Session<Settings>> {
+    match called.answer {
+        Err(refusal) => print!(rt; "{text}{refusal}")?,
+        Ok(count) => print!(rt; "{text}{count} rows")?,
     }
-    Ok(c.session)
+    Ok(called.session)
 }
 
 // A unit's line: refused for the address after it, without its flags and without room for its rows, then accepted.
 // Each call is on the session that the one before it yielded.
 fn say_unit(
     rt: &impl Print,
-    t: Session,
+    t: Session<Settings>,
     address: usize,
     flags: &[u8],
     rows: &mut [u8; 64],
-) -> io::Result<Session>
+) -> io::Result<Session<Settings>>
     requires { address < 1000 }
 {
     let mut few = [0u8; 7];
-    say(rt, "\n  unit ", address as u64)?;
+    print!(rt; "\n  unit {address}")?;
     let skipped = say_called(rt, ": ", t.unit(address + 1, flags, rows))?;
     let early = say_called(rt, ", ", skipped.unit(address, b"", rows))?;
     let short = say_called(rt, ", ", early.unit(address, flags, &mut few))?;
     let next = say_called(rt, ", ", short.unit(address, flags, rows))?;
-    say(rt, "; due ", next.due as u64)?;
+    print!(rt; "; due {}", next.due)?;
     Ok(next)
 }
 
 // The bytes of so many rows, 8 at most, a row a line.
 fn say_rows(rt: &impl Print, rows: &[u8; 64], count: usize) -> io::Result<()> {
-    for i in 0..64 {
-        if i / 8 < count {
-            say_byte(rt, rows[i], i % 8 == 0)?;
+    for row in rows.chunks(8).take(count) {
+        rt.print("\n   ")?;
+        for byte in row {
+            print!(rt; " {byte}")?;
         }
     }
     Ok(())
 }
 
-fn say_byte(rt: &impl Print, byte: u8, first: bool) -> io::Result<()> {
-    if first {
-        say(rt, "\n    ", byte as u64)?;
-    } else {
-        say(rt, " ", byte as u64)?;
-    }
-    Ok(())
-}
-
 // A complete picture, and sessions whose fields were forged.
-fn say_end(rt: &impl Print, t: Session, address: usize) -> io::Result<()> {
+fn say_end(rt: &impl Print, t: Session<Settings>, address: usize) -> io::Result<()> {
     let mut rows = [0u8; 64];
     let end = say_called(rt, "\n  complete: ", t.unit(address, b"\x00", &mut rows))?;
-    let mut past = end;
-    past.due = 1000;
+    let past = Session { due: 1000, ..end };
     say_called(rt, "\n  1,000 due: ", past.unit(1000, b"\x00", &mut rows))?;
-    let mut cut = end;
-    cut.settings = setting_a(68, 64);
-    cut.due = 0;
+    let cut = Session {
+        settings: setting_a(68, 64),
+        due: 0,
+    };
     say_called(rt, "\n  width 68: ", cut.unit(0, b"\x00", &mut rows))?;
     Ok(())
 }
@@ -103,11 +87,11 @@ fn say_end(rt: &impl Print, t: Session, address: usize) -> io::Result<()> {
 // A unit of the small picture, and its rows.
 fn say_small_unit(
     rt: &impl Print,
-    t: Session,
+    t: Session<Settings>,
     address: usize,
     flags: &[u8],
     count: usize,
-) -> io::Result<Session>
+) -> io::Result<Session<Settings>>
     requires { address < 1000 }
 {
     let mut rows = [0u8; 64];
@@ -117,7 +101,7 @@ fn say_small_unit(
 }
 
 // A picture of 72 by 72: three of its four units reach past an edge, by 56 samples.
-fn say_small(rt: &impl Print, fresh: Session) -> io::Result<()> {
+fn say_small(rt: &impl Print, fresh: Session<Settings>) -> io::Result<()> {
     let first = say_small_unit(
         rt,
         fresh,
@@ -133,18 +117,14 @@ fn say_small(rt: &impl Print, fresh: Session) -> io::Result<()> {
 }
 
 // Opens a session, and goes on with a picture where it is accepted.
-fn say_opened(rt: &impl Print, text: &str, s: Settings) -> io::Result<Session> {
-    rt.print(text)?;
-    match Session::open(s) {
-        Opened::Refused(number) => {
-            say(rt, "refused ", number as u64)?;
-            Ok(Session {
-                settings: s,
-                due: 0,
-            })
+fn say_opened(rt: &impl Print, text: &str, settings: Settings) -> io::Result<Session<Settings>> {
+    match Session::open(settings) {
+        Err(reason) => {
+            print!(rt; "{text}refused {}", reason.number())?;
+            Ok(Session { settings, due: 0 })
         }
-        Opened::Fresh(t) => {
-            say(rt, "opened, due ", t.due as u64)?;
+        Ok(t) => {
+            print!(rt; "{text}opened, due {}", t.due)?;
             Ok(t)
         }
     }
@@ -156,6 +136,6 @@ fn main(rt: HostRuntime) -> io::Result<()> {
         &rt,
         say_opened(&rt, "\na picture of 72 by 72: ", setting_a(72, 72))?,
     )?;
-    rt.print("\n")?;
+    println!(&rt; "")?;
     Ok(())
 }

@@ -1,11 +1,8 @@
-use Rattle.std.proofs.Common.{length, ◌-◌, ◌≡◌, ◌≤◌}
-use Rattle.bank.specs.Steps.{all}
-use Rattle.bank.proofs.Sums.{left_to}
+use Rattle.std.proofs.Common.{◌≡◌, take, fold}
+use Rattle.bank.specs.Accounts.{left_in}
+use Rattle.bank.specs.Steps.{all, left_after}
 use Rattle.colwythar.proofs.bank_calls.colwythar_grant.Given as goal
 
 -- what is left after so many accounts
-abbrev pub invariant-loop-k : goal.invariant-loop-k
-invariant-loop-k l = (l.left ≡ left_to (all l.limit) l.k l.accounts) × (l.k ≤ length l.accounts)
-
-abbrev pub decreases-loop-k : goal.decreases-loop-k
-decreases-loop-k l = length l.accounts - l.k
+abbrev pub invariant-loop-a : goal.invariant-loop-a
+invariant-loop-a l = left_in l.left ≡ fold left_after (all l.limit) (take l.a-index l.fn.accounts)
