@@ -22,7 +22,7 @@ fn after_first(root: Root, first: &[u8], second: &[u8]) -> Answer
     requires { Tabled (luma root.limits) root.node × Passes (luma root.limits) root.node first.now }
     ensures { said result ≡ compare_rows (luma root.limits) root.node first.now second.now }
 {
-    writer::test_table(root, second)?;
+    writer::test_table(root.limits, root.node, second)?;
     let finer = tables::finer_or_equal(first, second);
     let coarser = tables::finer_or_equal(second, first);
     Ok(finer::compared(finer, coarser).number())
@@ -34,7 +34,7 @@ fn compare_rows(root: Root, first: &[u8], second: &[u8]) -> Answer
     requires { Tabled (luma root.limits) root.node }
     ensures { said result ≡ compare_rows (luma root.limits) root.node first.now second.now }
 {
-    writer::test_table(root, first)?;
+    writer::test_table(root.limits, root.node, first)?;
     if first == second {
         return Ok(Finer::Equal.number());
     }

@@ -72,10 +72,7 @@ module _ (l : Limits) (root : Node) (bytes : List ℕ) where
 
 -- ---- the end of rows that no walk takes, by how many of them lead
 
-module _ {l : Limits} {root : Node} (u : UnitRoot l root) (bytes : List ℕ) {leading : ℕ} (leads : (left : ℕ) → fit_node (luma l) root (rows_in bytes) ≡ stuck left → leading ≡ length bytes / 8 - left) where
-  r : Rooted (luma l) root
-  r = rooted u
-
+module _ {l : Limits} {root : Node} (r : Rooted (luma l) root) (bytes : List ℕ) {leading : ℕ} (leads : (left : ℕ) → fit_node (luma l) root (rows_in bytes) ≡ stuck left → leading ≡ length bytes / 8 - left) where
   pub leads_all : leading ≡ length bytes / 8 → StuckEnd (luma l) root bytes 27 leading
   leads_all h = record {
     ends = λ left is.
@@ -89,10 +86,7 @@ module _ {l : Limits} {root : Node} (u : UnitRoot l root) (bytes : List ℕ) {le
 
 -- ---- what the walk of the root answers, and what the search finds, are the test's end, and the scratch table has its flags
 
-module _ {l : Limits} {root : Node} (u : UnitRoot l root) (bytes : List ℕ) (whole_rows : length bytes % 8 ≡ 0) {b z : List ℕ} {answer : ℕ} (done : Done (back_way bytes) (back_node (luma l) root (rows_in bytes)) 0 b answer z) where
-  stands : Rooted (luma l) root
-  stands = rooted u
-
+module _ {l : Limits} {root : Node} (stands : Rooted (luma l) root) (bytes : List ℕ) (whole_rows : length bytes % 8 ≡ 0) {b z : List ℕ} {answer : ℕ} (done : Done (back_way bytes) (back_node (luma l) root (rows_in bytes)) 0 b answer z) where
   abbrev run : Run ℕ (List Row)
   run = back_node (luma l) root (rows_in bytes)
 

@@ -27,9 +27,9 @@ fn write_all(root: Root, rows: &[u8], flags: &mut [u8]) -> Answer
     ensures { Meets (write_rows (luma root.limits) root.node rows.now flags.old) (said result) flags.new }
 {
     let mut scratch = [0u8; 2048];
-    let answer = test::walk_all(root, rows, &mut scratch);
+    let answer = test::walk_all(root.limits, root.node, rows, &mut scratch);
     let Ok(end) = nodes::child_answer(answer) else {
-        return Err(test::stuck_end(root, rows));
+        return Err(test::stuck_end(root.limits, root.node, rows));
     };
     let n = test::walk_end(end, rows)?;
     deliver::all_flags(n, &scratch, flags)

@@ -7,6 +7,7 @@ ghost use Rattle.refusals.specs.Numbers.{number};
 ghost use Rattle.refusals.specs.Said.{said};
 ghost use Rattle.unit.specs.Answers.{answer_of};
 ghost use Rattle.unit.specs.Writer.{test_rows, test_unit};
+ghost use Rattle.walks.specs.Rooted.{Rooted};
 ghost use Rattle.tree.specs.Rows.{rows_in};
 ghost use Rattle.tree.specs.Back.{back_node};
 ghost use Rattle.walks.specs.Walks.{Done};
@@ -17,6 +18,7 @@ use flags::{Scratch, some_open};
 use marks::same_row;
 use refusals::{Reason, Refusal};
 use settings::Settings;
+use tree::{Limits, Node};
 use unit::Answer;
 use walks::Root;
 
@@ -57,23 +59,16 @@ fn leaf_count(splits: u32) -> usize
     usize::from(some_open(splits))
 }
 
-// Stays: that the rows are whole is asked, as in crate marks.
+// Stays: limits and node, and that they are a root's, as `test_table` promises it for any root that can be walked (`Rooted`); `Root` is a unit's.
 // The walk of whole rows, from the numbers of a root, into a scratch table.
-pub(crate) fn walk_all(root: Root, rows: &[u8], scratch: &mut Scratch) -> u64
-    requires { length rows.now % 8 ≡ 0 }
-    ensures { Done (back_way rows.now) (back_node (luma root.limits) root.node (rows_in rows.now)) 0 scratch.old result scratch.new }
+pub(crate) fn walk_all(l: Limits, root: Node, rows: &[u8], scratch: &mut Scratch) -> u64
+    requires { Rooted (luma l) root × (length rows.now % 8 ≡ 0) }
+    ensures { Done (back_way rows.now) (back_node (luma l) root (rows_in rows.now)) 0 scratch.old result scratch.new }
 {
-    let u = nodes::luma_table(root.limits);
-    let splits = splits::open_splits(root.limits, root.node);
-    let row = blocks::row_word(root.node);
-    back::tree_back(
-        &u,
-        rows,
-        scratch,
-        row,
-        splits::out(root.limits, root.node),
-        splits,
-    )
+    let u = nodes::luma_table(l);
+    let splits = splits::open_splits(l, root);
+    let row = blocks::row_word(root);
+    back::tree_back(&u, rows, scratch, row, splits::out(l, root), splits)
 }
 
 // The end of a walk that takes the rows of a tree: 28 where rows are left, or the number of their flags.
@@ -90,14 +85,14 @@ pub(crate) fn walk_end(end: u64, rows: &[u8]) -> Answer
 
 // The end of whole rows that no walk takes: 27 where all of them lead, else 16, at the place that a search finds. Two
 // functions call it, so that it stays out of the walk's, with the walk's tables off the stack.
-pub(crate) fn stuck_end(root: Root, rows: &[u8]) -> Refusal
-    requires { length rows.now % 8 ≡ 0 }
-    ensures { StuckEnd (luma root.limits) root.node rows.now (number result.reason) result.place }
+pub(crate) fn stuck_end(l: Limits, root: Node, rows: &[u8]) -> Refusal
+    requires { Rooted (luma l) root × (length rows.now % 8 ≡ 0) }
+    ensures { StuckEnd (luma l) root rows.now (number result.reason) result.place }
 {
-    let u = nodes::luma_table(root.limits);
-    let splits = splits::open_splits(root.limits, root.node);
-    let row = blocks::row_word(root.node);
-    let leading = search::leading_rows(&u, rows, row, splits::out(root.limits, root.node), splits);
+    let u = nodes::luma_table(l);
+    let splits = splits::open_splits(l, root);
+    let row = blocks::row_word(root);
+    let leading = search::leading_rows(&u, rows, row, splits::out(l, root), splits);
     if leading == rows.len() / 8 {
         Reason::RowsMissing.at(leading)
     } else {
@@ -106,19 +101,19 @@ pub(crate) fn stuck_end(root: Root, rows: &[u8]) -> Refusal
 }
 
 // The test of whole rows by a walk, refusals 27, 28 and 16.
-fn test_walk(root: Root, rows: &[u8]) -> Answer
-    requires { length rows.now % 8 ≡ 0 }
-    ensures { said result ≡ answer_of (test_rows (luma root.limits) root.node rows.now) }
+fn test_walk(l: Limits, root: Node, rows: &[u8]) -> Answer
+    requires { Rooted (luma l) root × (length rows.now % 8 ≡ 0) }
+    ensures { said result ≡ answer_of (test_rows (luma l) root rows.now) }
 {
     let mut scratch = [0u8; 2048];
-    let Ok(end) = nodes::child_answer(walk_all(root, rows, &mut scratch)) else {
-        return Err(stuck_end(root, rows));
+    let Ok(end) = nodes::child_answer(walk_all(l, root, rows, &mut scratch)) else {
+        return Err(stuck_end(l, root, rows));
     };
     walk_end(end, rows)
 }
 
 // The test of a table, refusals 15, 27, 28 and 16; a root that is a leaf needs no walk.
-#[tactic(auto, using(crate::proofs::Whole::rows_cut, crate::proofs::Alone::leaf_counted))]
+#[tactic(auto, using(crate::proofs::Whole::rows_cut, crate::proofs::Alone::leaf_counted, walks::proofs::UnitRoots::rooted))]
 fn test_rows(root: Root, rows: &[u8]) -> Answer
     ensures { said result ≡ answer_of (test_rows (luma root.limits) root.node rows.now) }
 {
@@ -128,19 +123,20 @@ fn test_rows(root: Root, rows: &[u8]) -> Answer
     if is_leaf(root, rows) {
         return Ok(leaf_count(leaf_splits(root)));
     }
-    test_walk(root, rows)
+    test_walk(root.limits, root.node, rows)
 }
 
 // The same without the short way of a leaf.
 // Stays: with one more caller of that the compiler takes it out of the page and the way back, and one row took 16.3 ns for 11.8.
 #[tactic(auto, using(crate::proofs::Whole::rows_cut))]
-pub fn test_table(root: Root, rows: &[u8]) -> Answer
-    ensures { said result ≡ answer_of (test_rows (luma root.limits) root.node rows.now) }
+pub fn test_table(l: Limits, root: Node, rows: &[u8]) -> Answer
+    requires { Rooted (luma l) root }
+    ensures { said result ≡ answer_of (test_rows (luma l) root rows.now) }
 {
     if rows.len() % 8 != 0 {
         return Err(Reason::RowBytes.at(rows.len() / 8));
     }
-    test_walk(root, rows)
+    test_walk(l, root, rows)
 }
 
 // Tests the rows of the unit at an address: answers the number of the flags that give them, or a refusal of the way back

@@ -6,13 +6,20 @@ use Rattle.unit.specs.Writer.{test_rows}
 use Rattle.walks.proofs.Apart.{was_walked, was_refused}
 use Rattle.writer.specs.Delivery.{walk_end, InScratch}
 use Rattle.writer.proofs.Whole.{root_walked, root_refused, kept_refused, kept_few, kept_written}
+use Rattle.walks.proofs.UnitRoots.{rooted}
 use Rattle.writer.proofs.write_all.Goals as goal
 use Rattle.writer.proofs.write_all.Goals.{After-walk_end}
+
+pub walk_all-answer-requires : goal.walk_all-answer-requires
+walk_all-answer-requires c = (rooted c.args.root.unit, c.requires)
+
+pub stuck_end-requires : goal.stuck_end-requires
+stuck_end-requires c = (rooted c.args.root.unit, c.requires)
 
 pub returns-in_default : goal.returns-in_default
 returns-in_default c =
     let a = c.args in
-    let kept = root_refused a.root.unit a.rows.now c.requires c.walk_all-answer.ensures (was_refused _ c.child_answer.ensures c.in_default.is) c.stuck_end.ensures in
+    let kept = root_refused (rooted a.root.unit) a.rows.now c.requires c.walk_all-answer.ensures (was_refused _ c.child_answer.ensures c.in_default.is) c.stuck_end.ensures in
     kept_refused a.root.limits a.root.node a.rows.now kept a.flags.now refl
 
 -- a walk that takes the rows of a tree: its end is the test's
@@ -20,7 +27,7 @@ kept : (c : After-walk_end) {said : Answer} → said ≡ walk_end c.in-Ok.end c.
     → InScratch (test_rows (luma c.args.root.limits) c.args.root.node c.args.rows.now) said c.walk_all-answer.new.scratch
 kept c e =
     let on = was_walked _ c.child_answer.ensures c.in-Ok.is in
-    root_walked c.args.root.unit c.args.rows.now c.requires c.walk_all-answer.ensures on.1 (e ∙ ap (λ x. walk_end x c.args.rows.now) on.0)
+    root_walked (rooted c.args.root.unit) c.args.rows.now c.requires c.walk_all-answer.ensures on.1 (e ∙ ap (λ x. walk_end x c.args.rows.now) on.0)
 
 pub returns-in_err-n : goal.returns-in_err-n
 returns-in_err-n c =

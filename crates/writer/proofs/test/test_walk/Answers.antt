@@ -6,9 +6,9 @@ use Rattle.writer.proofs.test.test_walk.Goals as goal
 
 pub returns-in_default : goal.returns-in_default
 returns-in_default c =
-    (root_refused c.args.root.unit c.args.rows.now c.requires c.walk_all.ensures (was_refused _ c.child_answer.ensures c.in_default.is) c.stuck_end.ensures).answers
+    (root_refused c.requires.0 c.args.rows.now c.requires.1 c.walk_all.ensures (was_refused _ c.child_answer.ensures c.in_default.is) c.stuck_end.ensures).answers
 
 pub returns : goal.returns
 returns c =
     let on = was_walked _ c.child_answer.ensures c.in-Ok.is in
-    (root_walked c.args.root.unit c.args.rows.now c.requires c.walk_all.ensures on.1 (c.walk_end.ensures ∙ ap (λ x. walk_end x c.args.rows.now) on.0)).answers
+    (root_walked c.requires.0 c.args.rows.now c.requires.1 c.walk_all.ensures on.1 (c.walk_end.ensures ∙ ap (λ x. walk_end x c.args.rows.now) on.0)).answers

@@ -1,14 +1,14 @@
 use Rattle.tree.specs.Kind.{luma}
-use Rattle.walks.proofs.UnitRoots.{unit_given}
+use Rattle.walks.specs.Rooted.{Given}
 use Rattle.writer.proofs.test.walk_all.Goals as goal
+use Rattle.writer.proofs.test.walk_all.Goals.{After-out}
+
+-- what the walk is given
+given : (c : After-out) → Given (luma c.args.l) c.args.root c.luma_table-u.result c.row_word-row.result c.out.result c.open_splits-splits.result
+given c = record { rooted = c.requires.0; table = c.luma_table-u.ensures; row_is = c.row_word-row.ensures; out_is = c.out.ensures; splits_are = c.open_splits-splits.ensures }
 
 pub tree_back-requires : goal.tree_back-requires
-tree_back-requires c =
-    let a = c.args in
-    let given = unit_given a.root.unit c.luma_table-u.ensures c.row_word-row.ensures c.out.ensures c.open_splits-splits.ensures in
-    (record { kind = luma a.root.limits; root = a.root.node; given = given }, c.requires, c.told-scratch)
+tree_back-requires c = (record { kind = luma c.args.l; root = c.args.root; given = given (goal.at.tree_back-requires c).After-out }, c.requires.1, c.told-scratch)
 
 pub returns : goal.returns
-returns c =
-    let a = c.args in
-    c.tree_back.ensures (luma a.root.limits) a.root.node (unit_given a.root.unit c.luma_table-u.ensures c.row_word-row.ensures c.out.ensures c.open_splits-splits.ensures)
+returns c = c.tree_back.ensures (luma c.args.l) c.args.root (given (goal.at.returns c).After-out)

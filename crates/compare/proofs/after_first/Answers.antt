@@ -1,0 +1,5 @@
+use Rattle.walks.proofs.UnitRoots.{rooted}
+use Rattle.compare.proofs.after_first.Goals as goal
+
+pub test_table-requires : goal.test_table-requires
+test_table-requires c = rooted c.args.root.unit
