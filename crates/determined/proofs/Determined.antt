@@ -4,7 +4,8 @@ use Rattle.refusals.specs.declared.Reason.{Reason}
 use Rattle.refusals.specs.declared.Reason.TheVariants as reason
 use Rattle.refusals.specs.declared.Refusal.{Refusal}
 use Rattle.refusals.specs.Numbers.{number, refusal}
-use Rattle.refusals.specs.Said.{Said, Accepted, Refused, said, numbered}
+use Rattle.refusals.specs.Said.{Said, Accepted, Refused, said, numbered, number_or_0}
+use Rattle.refusals.proofs.Numbers.{not_0}
 use Rattle.determined.specs.Determined.{Determined}
 
 -- the reason with a number; the last one for a number that has none
@@ -90,9 +91,17 @@ module _ {A : Type 0} where
   same_reason (Ok given) = refl
   same_reason (Err r) = ap (λ (x : Reason). Err x) (named_number r)
 
+checked : (a b : Result Unit Reason) → number_or_0 a ≡ number_or_0 b → a ≡ b
+checked (Ok u) (Ok v) e = refl
+checked (Ok u) (Err r) e = absurd (not_0 r (sym e))
+checked (Err r) (Ok v) e = absurd (not_0 r e)
+checked (Err r) (Err q) e = ap (λ (x : Reason). Err x) (differ r q e)
+
 pub determined : Determined
 determined = record {
   reasons = differ;
   results = λ A a b e. sym (same_result a) ∙ (ap result_of e ∙ same_result b);
   placeless = λ A a b e. sym (same_reason a) ∙ (ap reason_of e ∙ same_reason b);
+  none_is_0 = not_0;
+  checks = checked;
 }

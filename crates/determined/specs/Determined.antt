@@ -3,7 +3,7 @@ use Rattle.std.specs.Prelude.{◌≡◌, Result}
 use Rattle.refusals.specs.declared.Reason.{Reason}
 use Rattle.refusals.specs.declared.Refusal.{Refusal}
 use Rattle.refusals.specs.Numbers.{number}
-use Rattle.refusals.specs.Said.{said, numbered}
+use Rattle.refusals.specs.Said.{said, numbered, number_or_0}
 
 pub record Determined : Type 1 where
   -- reasons differ in their numbers
@@ -11,3 +11,6 @@ pub record Determined : Type 1 where
   -- so results differ in what they say, with a place and without one
   pub results : (A : Type 0) (a b : Result A Refusal) → said a ≡ said b → a ≡ b
   pub placeless : (A : Type 0) (a b : Result A Reason) → numbered a ≡ numbered b → a ≡ b
+  -- no reason has the number 0, so a check's number tells its result, too
+  pub none_is_0 : (a : Reason) → ¬ (number a ≡ 0)
+  pub checks : (a b : Result Unit Reason) → number_or_0 a ≡ number_or_0 b → a ≡ b
