@@ -21,6 +21,7 @@ use flags::Scratch;
 use marks::{Marks, same_row};
 use nodes::Table;
 
+// Stays: a root's numbers are arguments, as the walks and their contracts have them (`SomeRoot`, `Given`).
 // The walk of a root, from any row on. One that is out is above all cuts, as a child of a quad split is. One inside the
 // picture is met as a child is: the second caller keeps `node_back` a function of its own, so that a leaf is met without
 // a call.

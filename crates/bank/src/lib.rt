@@ -44,9 +44,8 @@ fn judged(answer: Answer, room: usize, could: usize) -> Answer
     }
 }
 
-// Stays: beside `Session::unit`: a second caller of that costs the plain unit call 6 ns (docs/DECISIONS.md).
-// The answer of the unit call on a session of these settings with this address due. `Session::unit` has these steps,
-// too: with a second caller it would not be inlined into the plain unit call (docs/DECISIONS.md).
+// The answer of the unit call on a session of these settings with this address due.
+// Stays: `Session::unit` has these steps, too; with a second caller it was not inlined into the plain unit call, and one row took 6 ns more (docs/DECISIONS.md).
 fn unit_answer(
     settings: Settings,
     due: usize,

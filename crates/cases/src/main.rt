@@ -94,6 +94,7 @@ fn say_rows(rt: &impl Print, rows: &[u8; 64], count: usize) -> io::Result<()> {
     Ok(())
 }
 
+// Stays: the handle, a text, settings and an address are arguments of the functions that print, in the order of a line.
 // Reads a unit into a buffer of so many bytes, 64 at most, and prints the answer, and the rows of an accepted unit.
 fn say_reading(
     rt: &impl Print,

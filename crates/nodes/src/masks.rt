@@ -23,7 +23,7 @@ pub(crate) const HEIGHT_MASKS: usize = 12;
 // and the area's, which is the sum of both.
 pub(crate) const AREA_MASKS: usize = 16;
 
-// Stays: limits, direction and side are arguments, in the order of the definition (`side_rights e l s`).
+// Stays: limits, direction and side are arguments, the three of the definition (`side_rights e l s`).
 // Whether a side lets a cut of direction d open: the side is the height where e is horizontal, the width where it is
 // vertical.
 fn binary_by(l: Limits, e: Direction, s: u32, d: Direction) -> bool

@@ -1,4 +1,4 @@
--- Demand 1, one claim about the four calls: "Err first: settings outside H.266's ranges, a unit that doesn't exist or
+-- Demand 1, one claim about the four calls: "Refused first: settings outside H.266's ranges, a unit that doesn't exist or
 -- isn't due, flags that end early, run over or are no flags, rows that no tree gives, a lent buffer that is too short.
 -- Each refusal has its number and place from document 01 and leaves every buffer and the session unchanged. Everything
 -- else is accepted, for all input, and each call ends." That each call ends is part of every proved contract.

@@ -38,6 +38,7 @@ fn say_called(
     Ok(called.session)
 }
 
+// Stays: the handle, a session and an address are arguments: each call yields the session of the next.
 // A unit's line: refused for the address after it, without its flags and without room for its rows, then accepted.
 // Each call is on the session that the one before it yielded.
 fn say_unit(

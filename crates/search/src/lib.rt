@@ -15,6 +15,7 @@ ghost use Rattle.walks.specs.Rooted.{Given, SomeRoot};
 use node::Search;
 use nodes::Table;
 
+// Stays: a root's numbers are arguments, as the walks and their contracts have them (`SomeRoot`, `Given`).
 // The most leading rows with which some tree's table begins, of a root, by its numbers; whole rows that begin with no
 // tree's whole table.
 pub fn leading_rows(u: &Table, rows: &[u8], row: u64, out: bool, splits: u32) -> usize

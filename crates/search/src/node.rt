@@ -1,7 +1,7 @@
 // The search at a node: every decision that the next row leaves is tried, and the farthest answer kept. An answer is a
 // walk's: it goes on after the rows of a tree, or it is refused with 16 after the most rows that a tree's table begins
 // with.
-// Stays: the numbers of a node are arguments: in a struct by value a walk takes 8 to 10 % more instructions.
+// Stays: the numbers of a node are arguments, as of the walks: their contract (`Asked`, `Walked`) has them one by one.
 // Stays: an answer is one number, as of the walks: the farther of two refusals is the greater number.
 ghost use Rattle.std.specs.Prelude.{◌≡◌, true, [], ◌∷◌, ◌-◌, ◌%◌, ◌<◌, length};
 ghost use Rattle.tree.specs.Splits.{is_split};
