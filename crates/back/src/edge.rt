@@ -1,7 +1,10 @@
 // The way back of nodes that are out of the picture at the right or at the bottom, and of their children.
-// Stays: a walk answers one number: as `Result<u64, u64>`, which comes back in two registers, it takes 6 to 8 % more instructions.
-// Stays: its twin in crate parser is no other instance of one walk: the check has no proof of a cycle through a trait's method ("a method of the block leads back to this function").
-// Stays: what is lent is arguments: as fields of a struct behind a reference, as in crate parser, a way back of cuts takes 4 to 5 % more time.
+// Stays: a walk answers one number: as `Result<u64, u64>`, which comes back in two registers, it takes 6 to 8 % more
+// instructions.
+// Stays: its twin in crate parser is no other instance of one walk: the check has no proof of a cycle through a trait's
+// method ("a method of the block leads back to this function").
+// Stays: what is lent is arguments: as fields of a struct behind a reference, as in crate parser, a way back of cuts
+// takes 4 to 5 % more time.
 ghost use Rattle.std.specs.Prelude.{◌≡◌, true, [], ◌∷◌, length};
 ghost use Rattle.tree.specs.Splits.{is_out};
 ghost use Rattle.tree.specs.Children.{corner_inside};

@@ -1,9 +1,12 @@
 // The way back of nodes inside the picture; built as the reader of these. A leaf is met by its parent, so that only
 // splits cost a call.
-// Stays: a walk answers one number: as `Result<u64, u64>`, which comes back in two registers, it takes 6 to 8 % more instructions.
-// Stays: its twin in crate parser is no other instance of one walk: the check has no proof of a cycle through a trait's method ("a method of the block leads back to this function").
+// Stays: a walk answers one number: as `Result<u64, u64>`, which comes back in two registers, it takes 6 to 8 % more
+// instructions.
+// Stays: its twin in crate parser is no other instance of one walk: the check has no proof of a cycle through a trait's
+// method ("a method of the block leads back to this function").
 // Stays: the numbers of a node are arguments: in a struct by value a walk takes 8 to 10 % more instructions.
-// Stays: what is lent is arguments: as fields of a struct behind a reference, as in crate parser, a way back of cuts takes 4 to 5 % more time.
+// Stays: what is lent is arguments: as fields of a struct behind a reference, as in crate parser, a way back of cuts
+// takes 4 to 5 % more time.
 ghost use Rattle.std.specs.Prelude.{◌≡◌, false, [], ◌∷◌, length, ◌+◌, ◌<◌, ◌≤◌};
 ghost use Rattle.tree.specs.declared.Decision.TheVariants.{Leaf, Quad, Binary, Ternary};
 ghost use Rattle.walks.specs.Stands.{word, Inside};

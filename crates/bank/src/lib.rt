@@ -45,7 +45,8 @@ fn judged(answer: Answer, room: usize, could: usize) -> Answer
 }
 
 // The answer of the unit call on a session of these settings with this address due.
-// Stays: `Session::unit` has these steps, too; with a second caller it was not inlined into the plain unit call, and one row took 6 ns more (docs/DECISIONS.md).
+// Stays: `Session::unit` has these steps, too; with a second caller it was not inlined into the plain unit call, and
+// one row took 6 ns more (docs/DECISIONS.md).
 fn unit_answer(
     settings: Settings,
     due: usize,

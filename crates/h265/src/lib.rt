@@ -1,5 +1,6 @@
-// H.265 pictures: what is proved of them, and the way back of a unit. The settings are H.265's own; the trees and the walks are those of H.266, and the reading and the picture session
-// are those of all codings (`reader::read_unit`, `picture::Session`).
+// H.265 pictures: what is proved of them, and the way back of a unit. The settings are H.265's own; the trees and the
+// walks are those of H.266, and the reading and the picture session are those of all codings (`reader::read_unit`,
+// `picture::Session`).
 #![tactic(auto)]
 
 ghost use Rattle.refusals.specs.Said.{said};

@@ -19,7 +19,8 @@ fn cells(row: u64) -> u64
     1u64 << ((row / ROW_WIDTH + row / ROW_HEIGHT + 12) % 16)
 }
 
-// Stays: that the rows are whole is asked: rows and marks are arguments of the way back, which a struct of them makes slower (back/src/inside.rt).
+// Stays: that the rows are whole is asked: rows and marks are arguments of the way back, which a struct of them makes
+// slower (back/src/inside.rt).
 // Each row has a cell at least, so the number of rows that are passed is at most that of the cells.
 pub(crate) fn mark(rows: &[u8], marks: &mut Marks)
     requires { (length rows.now % 8 ≡ 0) × (marks.old ≡ replicate 2048 4294967295) }

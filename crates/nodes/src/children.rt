@@ -100,7 +100,8 @@ fn cut_part(row: u64, v: Direction, size: u32) -> u64
     row.wrapping_add(ROW_MTT - (fall(size) << exponent_place(v)))
 }
 
-// Stays: the parts of a cut are calls of `cut_part` and `step_along` under their own names; `child_row` is the same for any part, by the table of shares.
+// Stays: the parts of a cut are calls of `cut_part` and `step_along` under their own names; `child_row` is the same for
+// any part, by the table of shares.
 // The rows of the parts of a binary split, which differ in their corners only.
 #[tactic(auto, using(crate::proofs::CutParts::half_share, crate::proofs::CutParts::first_half_is))]
 pub fn first_half(row: u64, v: Direction) -> u64

@@ -7,7 +7,8 @@ ghost use Rattle.nodes.specs.Tables.{side_rights, table_of};
 use tree::{BH, BV, CUTS, Direction, Limits, QT, TH, TV};
 
 // The limits, a zero, and the masks of the widths and of the heights 4 to 128, and of the areas 16 to 16,384.
-// Stays: one array, since the definitions of the walks take a kind as one list (`table_of`, `limits_in`), so that another kind is another list.
+// Stays: one array, since the definitions of the walks take a kind as one list (`table_of`, `limits_in`), so that
+// another kind is another list.
 pub type Table = [u32; 31];
 
 // The places in it: of M,

@@ -1,7 +1,10 @@
 // The reading of nodes that are out of the picture at the right or at the bottom, and of their children.
-// Stays: a walk answers one number: as `Result<u64, u64>`, which comes back in two registers, it takes 6 to 8 % more instructions.
-// Stays: its twin in crate back is no other instance of one walk: the check has no proof of a cycle through a trait's method ("a method of the block leads back to this function").
-// Stays: the table of rows is an argument and no field: each contract would have to say that the other fields stay, which is no plainer.
+// Stays: a walk answers one number: as `Result<u64, u64>`, which comes back in two registers, it takes 6 to 8 % more
+// instructions.
+// Stays: its twin in crate back is no other instance of one walk: the check has no proof of a cycle through a trait's
+// method ("a method of the block leads back to this function").
+// Stays: the table of rows is an argument and no field: each contract would have to say that the other fields stay,
+// which is no plainer.
 ghost use Rattle.std.specs.Prelude.{◌≡◌, true, [], ◌∷◌, length};
 ghost use Rattle.tree.specs.Splits.{is_out};
 ghost use Rattle.tree.specs.Children.{corner_inside};

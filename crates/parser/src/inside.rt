@@ -1,9 +1,12 @@
 // The reading of nodes inside the picture. The open splits of siblings are found once, by their parent, and a leaf is
 // met by its parent, so that only splits cost a call.
-// Stays: a walk answers one number: as `Result<u64, u64>`, which comes back in two registers, it takes 6 to 8 % more instructions.
-// Stays: its twin in crate back is no other instance of one walk: the check has no proof of a cycle through a trait's method ("a method of the block leads back to this function").
+// Stays: a walk answers one number: as `Result<u64, u64>`, which comes back in two registers, it takes 6 to 8 % more
+// instructions.
+// Stays: its twin in crate back is no other instance of one walk: the check has no proof of a cycle through a trait's
+// method ("a method of the block leads back to this function").
 // Stays: the numbers of a node are arguments: in a struct by value a walk takes 8 to 10 % more instructions.
-// Stays: the table of rows is an argument and no field: each contract would have to say that the other fields stay, which is no plainer.
+// Stays: the table of rows is an argument and no field: each contract would have to say that the other fields stay,
+// which is no plainer.
 ghost use Rattle.std.specs.Prelude.{◌≡◌, false, [], ◌∷◌, ◌+◌, ◌<◌, ◌^◌, ◌%◌, length, set};
 ghost use Rattle.nodes.specs.State.{given_of};
 ghost use Rattle.walks.specs.Stands.{word, Inside};
@@ -61,8 +64,8 @@ impl<'a> Reading<'a> {
         self.node_walk(rows, c, row, bound, splits)
     }
 
-    // Reads a node of which some split is open and whose next flag is not 0. Two callers keep it a function of its own; without its
-    // first test the reading takes 14 to 70 % more time (docs/DECISIONS.md).
+    // Reads a node of which some split is open and whose next flag is not 0. Two callers keep it a function of its own;
+    // without its first test the reading takes 14 to 70 % more time (docs/DECISIONS.md).
     #[cycle(walk)]
     pub(crate) fn node_walk(
         &self,

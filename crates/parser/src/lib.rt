@@ -19,8 +19,8 @@ use reading::Reading;
 pub use reading::Scratch;
 
 // Stays: a root's numbers are arguments, as the walks and their contracts have them (`SomeRoot`, `Given`).
-// The walk of a root that is no leaf, from any place of the flags that leaves its own below 2^31. One that is out is above all cuts, as a child of a
-// quad split is.
+// The walk of a root that is no leaf, from any place of the flags that leaves its own below 2^31. One that is out is
+// above all cuts, as a child of a quad split is.
 pub fn root_walk(
     u: &Table,
     flags: &[u8],

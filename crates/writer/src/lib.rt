@@ -58,7 +58,8 @@ fn write_rows(root: Root, rows: &[u8], flags: &mut [u8]) -> Answer
 
 // Turns the rows of the unit at an address of an H.266 picture back: answers the number of its flags, which are then the
 // first bytes of the flag buffer, or a refusal, which leaves the buffer as it was.
-// Stays: `write_checked` at H.266's settings would say the same, but taken out of its entry one row took 13 to 19 ns for 11.5.
+// Stays: `write_checked` at H.266's settings would say the same, but taken out of its entry one row took 13 to 19 ns
+// for 11.5.
 pub fn write_flags(s: Settings, address: usize, rows: &[u8], flags: &mut [u8]) -> Answer
     ensures { Meets (write_flags s address rows.now flags.old) (said result) flags.new }
 {
@@ -66,7 +67,8 @@ pub fn write_flags(s: Settings, address: usize, rows: &[u8], flags: &mut [u8]) -
     write_rows(Root::of(s, q), rows, flags)
 }
 
-// The way back of the unit at an address, by H.266's numbers for its trees, where the settings that they stand for are taken.
+// The way back of the unit at an address, by H.266's numbers for its trees, where the settings that they stand for are
+// taken.
 fn write_luma(s: Settings, address: usize, rows: &[u8], flags: &mut [u8]) -> Answer
     requires { Usable s.ctu (limits_of s) }
     ensures { Meets (write_located (kind_of s) (located_by (refusal_at 0 (unit_count s) address) (square_at s address)) rows.now flags.old) (said result) flags.new }

@@ -59,7 +59,8 @@ fn leaf_count(splits: u32) -> usize
     usize::from(some_open(splits))
 }
 
-// Stays: limits and node, and that they are a root's, as `test_table` promises it for any root that can be walked (`Rooted`); `Root` is a unit's.
+// Stays: limits and node, and that they are a root's, as `test_table` promises it for any root that can be walked
+// (`Rooted`); `Root` is a unit's.
 // The walk of whole rows, from the numbers of a root, into a scratch table.
 pub(crate) fn walk_all(l: Limits, root: Node, rows: &[u8], scratch: &mut Scratch) -> u64
     requires { Rooted (luma l) root × (length rows.now % 8 ≡ 0) }
@@ -127,7 +128,8 @@ fn test_rows(root: Root, rows: &[u8]) -> Answer
 }
 
 // The same without the short way of a leaf.
-// Stays: with one more caller of that the compiler takes it out of the page and the way back, and one row took 16.3 ns for 11.8.
+// Stays: with one more caller of that the compiler takes it out of the page and the way back, and one row took 16.3 ns
+// for 11.8.
 #[tactic(auto, using(crate::proofs::Whole::rows_cut))]
 pub fn test_table(l: Limits, root: Node, rows: &[u8]) -> Answer
     requires { Rooted (luma l) root }
