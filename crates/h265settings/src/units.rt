@@ -1,5 +1,7 @@
 // The units of the picture, by the settings of H.266 that have the same trees.
-ghost use Rattle.h265settings.specs.Units.{units_of};
+ghost use Rattle.std.specs.Prelude.{◌≡◌};
+ghost use Rattle.unit.specs.Luma.{LumaUnits};
+ghost use Rattle.h265settings.specs.Units.{as_luma, units_of};
 
 use crate::{Settings, checks};
 use refusals::Reason;
@@ -15,7 +17,10 @@ impl Coding for Settings {
 
     // A quad tree is the luma tree without cuts, M = 0, down to the smallest side.
     #[tactic(auto, using(crate::proofs::Sound::quad_settings))]
-    fn as_luma(self) -> settings::Settings {
+    fn as_luma(self) -> settings::Settings
+        ensures units { LumaUnits (units_of self) result }
+        ensures numbers { result ≡ as_luma self }
+    {
         settings::Settings {
             ctu: self.ctu,
             mincb: self.smallest,
