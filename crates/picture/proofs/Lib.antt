@@ -1,4 +1,5 @@
 pub mod CallFaults
+pub mod Numbers
 pub mod Samples
 pub mod OneTree
 pub mod StateCalls
