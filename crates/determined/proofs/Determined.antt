@@ -1,11 +1,19 @@
 -- The reason of a number, and what follows.
-use Rattle.std.proofs.Common.{ℕ, ◌≡◌, refl, sym, ap, ◌∙◌, cond, eqb, Result, Ok, Err}
+use Rattle.std.proofs.Common.{ℕ, ◌≡◌, refl, sym, ap, ◌∙◌, Bool, cond, eqb, Result, Ok, Err, Option, Some, None}
 use Rattle.refusals.specs.declared.Reason.{Reason}
 use Rattle.refusals.specs.declared.Reason.TheVariants as reason
 use Rattle.refusals.specs.declared.Refusal.{Refusal}
 use Rattle.refusals.specs.Numbers.{number, refusal}
 use Rattle.refusals.specs.Said.{Said, Accepted, Refused, said, numbered, number_or_0}
 use Rattle.refusals.proofs.Numbers.{not_0}
+use Rattle.tree.specs.declared.Decision.{Decision}
+use Rattle.tree.specs.Flags.{Flag, Value, Bad, Choice, flag_said, choice_said}
+use Rattle.tree.specs.Flags as flags
+use Rattle.unit.specs.Answers.{Answer}
+use Rattle.picture.specs.declared.Session.{Session}
+use Rattle.picture.specs.declared.Called.{Called}
+use Rattle.picture.specs.Session.{replied}
+use Rattle.bank.specs.Accounts.{Left, left_in}
 use Rattle.determined.specs.Determined.{Determined}
 
 -- the reason with a number; the last one for a number that has none
@@ -97,6 +105,38 @@ checked (Ok u) (Err r) e = absurd (not_0 r (sym e))
 checked (Err r) (Ok v) e = absurd (not_0 r e)
 checked (Err r) (Err q) e = ap (λ (x : Reason). Err x) (differ r q e)
 
+-- ---- words of single crates
+
+abbrev flag_of : Flag → Result (Bool × ℕ) Refusal
+flag_of (Value v at) = Ok (v, at)
+flag_of (Bad n place) = Err (refusal (named n) place)
+
+same_flag : (a : Result (Bool × ℕ) Refusal) → flag_of (flag_said a) ≡ a
+same_flag (Ok (v, at)) = refl
+same_flag (Err r) = ap (λ (x : Reason). Err (refusal x r.place)) (named_number r.reason)
+
+abbrev choice_of : Choice → Result (Decision × ℕ) Refusal
+choice_of (flags.Chosen d at) = Ok (d, at)
+choice_of (flags.Refused n place) = Err (refusal (named n) place)
+
+same_choice : (a : Result (Decision × ℕ) Refusal) → choice_of (choice_said a) ≡ a
+same_choice (Ok (d, at)) = refl
+same_choice (Err r) = ap (λ (x : Reason). Err (refusal x r.place)) (named_number r.reason)
+
+module _ {S : Type 0} where
+  abbrev call_of : Session S × Answer → Called S
+  call_of p = record { session = p.0; answer = result_of p.1 }
+
+  same_call : (a : Called S) → call_of (replied a) ≡ a
+  same_call a = ap (λ (x : Result ℕ Refusal). record { session = a.session; answer = x }) (same_result a.answer)
+
+abbrev left_of : Left → Option ℕ
+left_of l = cond l.exceeded None (Some l.rows)
+
+same_left : (a : Option ℕ) → left_of (left_in a) ≡ a
+same_left (Some n) = refl
+same_left None = refl
+
 pub determined : Determined
 determined = record {
   reasons = differ;
@@ -104,4 +144,8 @@ determined = record {
   placeless = λ A a b e. sym (same_reason a) ∙ (ap reason_of e ∙ same_reason b);
   none_is_0 = not_0;
   checks = checked;
+  flags = λ a b e. sym (same_flag a) ∙ (ap flag_of e ∙ same_flag b);
+  choices = λ a b e. sym (same_choice a) ∙ (ap choice_of e ∙ same_choice b);
+  calls = λ S a b e. sym (same_call a) ∙ (ap call_of e ∙ same_call b);
+  lefts = λ a b e. sym (same_left a) ∙ (ap left_of e ∙ same_left b);
 }

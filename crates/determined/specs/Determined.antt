@@ -1,9 +1,14 @@
 -- Contracts say of a result what it says in the papers' numbers. Nothing is lost by that.
-use Rattle.std.specs.Prelude.{◌≡◌, Result}
+use Rattle.std.specs.Prelude.{ℕ, ◌≡◌, Bool, Result, Option}
 use Rattle.refusals.specs.declared.Reason.{Reason}
 use Rattle.refusals.specs.declared.Refusal.{Refusal}
 use Rattle.refusals.specs.Numbers.{number}
 use Rattle.refusals.specs.Said.{said, numbered, number_or_0}
+use Rattle.tree.specs.declared.Decision.{Decision}
+use Rattle.tree.specs.Flags.{flag_said, choice_said}
+use Rattle.picture.specs.declared.Called.{Called}
+use Rattle.picture.specs.Session.{replied}
+use Rattle.bank.specs.Accounts.{left_in}
 
 pub record Determined : Type 1 where
   -- reasons differ in their numbers
@@ -14,3 +19,8 @@ pub record Determined : Type 1 where
   -- no reason has the number 0, so a check's number tells its result, too
   pub none_is_0 : (a : Reason) → ¬ (number a ≡ 0)
   pub checks : (a b : Result Unit Reason) → number_or_0 a ≡ number_or_0 b → a ≡ b
+  -- nor are results that are said in the words of what they are of: a flag, what a node's flags decide, what a unit call returns, what is left of the rows of a bank
+  pub flags : (a b : Result (Bool × ℕ) Refusal) → flag_said a ≡ flag_said b → a ≡ b
+  pub choices : (a b : Result (Decision × ℕ) Refusal) → choice_said a ≡ choice_said b → a ≡ b
+  pub calls : (S : Type 0) (a b : Called S) → replied a ≡ replied b → a ≡ b
+  pub lefts : (a b : Option ℕ) → left_in a ≡ left_in b → a ≡ b
