@@ -19,7 +19,7 @@ pub record Determined : Type 1 where
   -- no reason has the number 0, so a check's number tells its result, too
   pub none_is_0 : (a : Reason) → ¬ (number a ≡ 0)
   pub checks : (a b : Result Unit Reason) → number_or_0 a ≡ number_or_0 b → a ≡ b
-  -- nor are results that are said in the words of what they are of: a flag, what a node's flags decide, what a unit call returns, what is left of the rows of a bank
+  -- the words of single crates tell the result as well: a flag and what a node's flags decide (tree), what a unit call returns (picture), what is left of the rows (bank)
   pub flags : (a b : Result (Bool × ℕ) Refusal) → flag_said a ≡ flag_said b → a ≡ b
   pub choices : (a b : Result (Decision × ℕ) Refusal) → choice_said a ≡ choice_said b → a ≡ b
   pub calls : (S : Type 0) (a b : Called S) → replied a ≡ replied b → a ≡ b
